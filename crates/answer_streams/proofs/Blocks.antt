@@ -10,8 +10,8 @@ use Rattle.std.proofs.lemmas.List.{drop-take, drop-drop, drop-append-le, take-ap
 use Rattle.std.proofs.lemmas.List.{take-take, append_cancel_left}
 use Rattle.std.proofs.Math.Seq.{take-append_seam, take-length}
 use Rattle.std.specs.Io.KnownBytes.{append_known}
-use Rattle.pack_streams.specs.Moves.{Gains}
-use Rattle.pack_streams.specs.Writing.{CountsWriting, GainsPart, Writes}
+use Rattle.pack_streams.specs.Moves.{Appended}
+use Rattle.pack_streams.specs.Writing.{CountsWriting, AppendedPrefix, Writes}
 use Rattle.answer_streams.specs.Fronts.{part_of, shown, IsToldFront}
 
 -- the part of a block is what is left of its front
@@ -34,7 +34,7 @@ part_drop block start end t le =
     ∙ ap (drop t) (sym (part_is block start end (omega (arith, le))))
 
 pub shown_given : (w v : Option (List ℕ)) (block : List ℕ) (start end t : ℕ) → start + t ≤ end
-    → Gains w v (take t (part_of block start end)) → shown v block (start + t) end ≡ shown w block start end
+    → Appended w v (take t (part_of block start end)) → shown v block (start + t) end ≡ shown w block start end
 shown_given w v block start end t le gains =
     ap (append_known v) (part_drop block start end t le)
     ∙ ap (λ u. append_known u (drop t (part_of block start end))) gains
@@ -75,7 +75,7 @@ is_told (Some xs) = true
 
 -- the sink behind took a part of the text, where what it took and what is held back is a part of the text
 pub part_behind : (w v : Option (List ℕ)) (held text : List ℕ) → IsToldFront w v
-    → GainsPart w (append_known v held) text → GainsPart w v text
+    → AppendedPrefix w (append_known v held) text → AppendedPrefix w v text
 part_behind None None held text front part = (0, refl)
 part_behind None (Some ys) held text front part = absurd (true≢false (ap is_told part.1))
 part_behind (Some xs) None held text front part = absurd (true≢false (sym (ap is_told front)))
@@ -108,7 +108,7 @@ pub on_ok : {X E : Type 0} (r : Result X E) (P : Type 0) → false ≡ is_err r 
 on_ok (Ok x) P e p = p
 on_ok (Err x) P e p = absurd (true≢false (sym e))
 
-whole_part : (w v : Option (List ℕ)) (text : List ℕ) → Gains w v text → GainsPart w v text
+whole_part : (w v : Option (List ℕ)) (text : List ℕ) → Appended w v text → AppendedPrefix w v text
 whole_part w v text gains = (length text, gains ∙ ap (append_known w) (sym (take-length text)))
 
 -- a failed text through a front is a failed text to the sink behind it
@@ -118,7 +118,7 @@ pub behind_err : {E : Type 0} (w s v : Option (List ℕ)) (held : List ℕ) (f g
 behind_err w s v held f g h text e d p q front t =
     record {
       whole = tt;
-      part = part_behind w v held text front (subst (λ u. GainsPart u (append_known v held) text) p t.part);
+      part = part_behind w v held text front (subst (λ u. AppendedPrefix u (append_known v held) text) p t.part);
       count = subst (λ n. FailedOnce n h) q t.count;
     }
 

@@ -18,7 +18,7 @@ use crate::results::{
 use bin_knapsack::Bins;
 use box_instances::Instance;
 use pack_streams::{Sink, write_on};
-use proof_tree::TokenList;
+use proof_tree::CompactTokens;
 
 // Writes each box's bin and place, and the refutation of fewer bins.
 fn write_certificates<K: Sink>(
@@ -26,7 +26,7 @@ fn write_certificates<K: Sink>(
     so_far: Written,
     instance: &Instance,
     numbers: &[u32],
-    tokens: &TokenList,
+    tokens: &CompactTokens,
 ) -> Written
     requires { AreAllInBins instance.now numbers.now }
     ensures { Continues (K.written sink.old) (K.written sink.new) (K.faults sink.old)
@@ -45,7 +45,7 @@ fn write_least<K: Sink>(
     instance: &Instance,
     bins: u32,
     numbers: &[u32],
-    tokens: &TokenList,
+    tokens: &CompactTokens,
 ) -> Written
     requires limits { IsInstance instance.now }
     requires placed { AreAllInBins instance.now numbers.now }
@@ -65,7 +65,7 @@ fn write_between<K: Sink>(
     sink: &mut K,
     instance: &Instance,
     refuted: u32,
-    tokens: &TokenList,
+    tokens: &CompactTokens,
     placed: u32,
     numbers: &[u32],
 ) -> Written

@@ -20,7 +20,7 @@ use crate::tree_start::TreeStart;
 use box_instances::Instance;
 use instance_text::write_instance;
 use pack_streams::{Sink, WriteFault, write_number, write_on};
-use proof_tree::{Outcome, TokenList, write_tokens_on};
+use proof_tree::{CompactTokens, Outcome, write_tokens_on};
 
 /// How writing went so far. Each call below writes where no fault came before, and else does
 /// nothing.
@@ -140,7 +140,7 @@ fn write_no<K: Sink>(
     sink: &mut K,
     start: TreeStart,
     instance: &Instance,
-    tokens: &TokenList,
+    tokens: &CompactTokens,
 ) -> Written
     requires { IsInstance instance.now }
     ensures { Writes (K.written sink.old) (K.written sink.new) (K.faults sink.old)

@@ -15,7 +15,7 @@ use crate::results::{write_between_line, write_opening, write_proof};
 use bin_knapsack::Choice;
 use box_instances::Instance;
 use pack_streams::{Sink, write_number, write_on};
-use proof_tree::TokenList;
+use proof_tree::CompactTokens;
 
 /// Writes the result line of a greatest value.
 pub(crate) fn write_greatest_line<K: Sink>(sink: &mut K, so_far: Written, value: u64) -> Written
@@ -50,7 +50,7 @@ fn write_certificates<K: Sink>(
     so_far: Written,
     instance: &Instance,
     numbers: &[u32],
-    tokens: &TokenList,
+    tokens: &CompactTokens,
 ) -> Written
     ensures { Continues (K.written sink.old) (K.written sink.new) (K.faults sink.old)
         (K.faults sink.new)
@@ -67,7 +67,7 @@ fn write_greatest<K: Sink>(
     instance: &Instance,
     value: u64,
     numbers: &[u32],
-    tokens: &TokenList,
+    tokens: &CompactTokens,
 ) -> Written
     requires { IsInstance instance.now }
     ensures { Writes (K.written sink.old) (K.written sink.new) (K.faults sink.old)
@@ -88,7 +88,7 @@ fn write_between<K: Sink>(
     placed: u64,
     numbers: &[u32],
     refuted: u64,
-    tokens: &TokenList,
+    tokens: &CompactTokens,
 ) -> Written
     requires { IsInstance instance.now }
     ensures { Writes (K.written sink.old) (K.written sink.new) (K.faults sink.old)

@@ -5,11 +5,11 @@
 mod audited;
 mod audited_fronts;
 mod bins_documents;
+mod block_buffer;
 mod bounded_documents;
 mod bounded_strips;
 mod documents;
 mod explained;
-mod front;
 mod front_document;
 mod front_lines;
 mod front_steps;

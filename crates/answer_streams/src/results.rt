@@ -12,7 +12,7 @@ ghost use Rattle.proof_tree.specs.Lines.{token_line, token_text};
 use crate::documents::{Written, write_instance_on};
 use box_instances::Instance;
 use pack_streams::{Sink, write_number, write_on};
-use proof_tree::{Token, TokenList, write_token_on, write_tokens_on};
+use proof_tree::{CompactTokens, Token, write_token_on, write_tokens_on};
 
 /// Writes the first line, and the lines of the instance.
 pub(crate) fn write_opening<K: Sink>(sink: &mut K, first: &[u8], instance: &Instance) -> Written
@@ -56,7 +56,7 @@ pub(crate) fn write_between_line<K: Sink>(
 }
 
 /// Writes the line `proof`, and a refutation.
-pub(crate) fn write_proof<K: Sink>(sink: &mut K, so_far: Written, tokens: &TokenList) -> Written
+pub(crate) fn write_proof<K: Sink>(sink: &mut K, so_far: Written, tokens: &CompactTokens) -> Written
     ensures { Continues (K.written sink.old) (K.written sink.new) (K.faults sink.old)
         (K.faults sink.new)
         (codes "proof\n" ++ token_text tokens.now) so_far result }

@@ -5,8 +5,8 @@ ghost use Rattle.pack_streams.specs.Writing.{Writes};
 ghost use Rattle.answer_streams.specs.Solutions.{solution_text, IsPlacedSolution};
 
 use crate::bins_documents::write_bins;
+use crate::block_buffer::{BlockBuffer, Flushed, SinkBrand, buffer_over, flush_and_unwrap};
 use crate::documents::{Written, write_fit};
-use crate::front::{Behind, Done, Front, front_before, hand_back};
 use crate::knapsack_documents::write_choice;
 use crate::solution::Solution;
 use crate::strip_documents::write_strip;
@@ -61,7 +61,7 @@ impl<'a> Streamed for AnswerDocument<'a> {
 
 // Writes the text through a front before the sink, which is named by the ghost name of the
 // reference to it.
-fn write_through<'a, K: Sink, T: Streamed, B: Behind>(out: &'a mut K, text: &T) -> Done<'a, K>
+fn write_through<'a, K: Sink, T: Streamed, B: SinkBrand>(out: &'a mut K, text: &T) -> Flushed<'a, K>
     requires ready { T.IsReady text.now }
     requires name { out.ghost_name ≡ B.name }
     requires begun { K.written out.now ≡ B.begun }
@@ -70,9 +70,9 @@ fn write_through<'a, K: Sink, T: Streamed, B: Behind>(out: &'a mut K, text: &T) 
         (K.faults out.entry.now) (K.faults result.out.now)
         (T.text text.now) result.result }
 {
-    let mut front: Front<'a, K, B> = front_before(out);
+    let mut front: BlockBuffer<'a, K, B> = buffer_over(out);
     let written = text.write_to(&mut front);
-    hand_back(front, written)
+    flush_and_unwrap(front, written)
 }
 
 /// Writes a text whole, unless a write fails: the first failure ends the writing. The text goes

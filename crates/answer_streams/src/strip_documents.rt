@@ -19,7 +19,7 @@ use crate::results::{
 use crate::tree_start::TreeStart;
 use box_instances::Instance;
 use pack_streams::{Sink, write_on};
-use proof_tree::TokenList;
+use proof_tree::CompactTokens;
 use strip_solver::Strip;
 
 // The first line of a document of `strip`.
@@ -38,7 +38,7 @@ fn write_certificates<K: Sink>(
     so_far: Written,
     instance: &Instance,
     places: &[u32],
-    tokens: &TokenList,
+    tokens: &CompactTokens,
 ) -> Written
     requires { AreAllPlaced instance.now places.now }
     ensures { Continues (K.written sink.old) (K.written sink.new) (K.faults sink.old)
@@ -57,7 +57,7 @@ fn write_least<K: Sink>(
     instance: &Instance,
     height: u32,
     places: &[u32],
-    tokens: &TokenList,
+    tokens: &CompactTokens,
 ) -> Written
     requires limits { IsInstance instance.now }
     requires placed { AreAllPlaced instance.now places.now }
@@ -78,7 +78,7 @@ fn write_between<K: Sink>(
     start: TreeStart,
     instance: &Instance,
     refuted: u32,
-    tokens: &TokenList,
+    tokens: &CompactTokens,
     placed: u32,
     places: &[u32],
 ) -> Written

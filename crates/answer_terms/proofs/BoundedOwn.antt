@@ -14,7 +14,7 @@ use Rattle.tree_terms.specs.OuterSearch.{AreTakenNumbers}
 use Rattle.document_terms.specs.declared.claim.SolvingJob.TheVariants.{Knapsack}
 use Rattle.document_terms.specs.declared.claim.Claim.{Claim}
 use Rattle.document_terms.specs.declared.claim.Claim.TheVariants.{GreatestValue, ValueBetween}
-use Rattle.document_terms.specs.Claims.{job_of, result_words, most_worth, IsTrueOf, IsValueBetween}
+use Rattle.document_terms.specs.Claims.{job_of, result_words, max_worth, IsTrueOf, IsValueBetween}
 use Rattle.bounded_terms.specs.BoundedRefutation.{BoundedToken, IsBoundedRefutation}
 use Rattle.verdict_terms.specs.declared.heading.Heading.TheVariants.{Bounded}
 use Rattle.verdict_terms.specs.Form.{IsResult, BacksUnder, MayName, AreProved, AreTaken, AreBounding}
@@ -76,7 +76,7 @@ backed_document instance claim numbers tokens limits backed =
 -- the numbers reach value `a`, and the tokens refute value `b`
 record ShowsValues (instance : PlainInstance) (a b : ℕ) (numbers : List ℕ) (tokens : List BoundedToken) : Type 0 where
   rising : a < b
-  most : b ≤ most_worth
+  most : b ≤ max_worth
   packing : AreTakenNumbers instance a numbers
   refutation : IsBoundedRefutation instance b tokens
   parameters : HaveParameters tokens
@@ -122,7 +122,7 @@ greatest_backed instance v numbers tokens limits shown =
       result = record {
         number = decimal v;
         are = refl;
-        is_number = decimal_number 0 most_worth v (omega arith) (omega (arith, m)) (omega arith);
+        is_number = decimal_number 0 max_worth v (omega arith) (omega (arith, m)) (omega arith);
       };
       filled = values.filled;
       backs = values.backs;

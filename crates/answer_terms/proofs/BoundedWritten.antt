@@ -8,7 +8,7 @@ use Rattle.std.specs.Fmt.{decimal}
 use Rattle.packing_terms.specs.declared.ScaleFn.{ScaleFn}
 use Rattle.packing_terms.specs.Packing.{PlainInstance, dims, box_count}
 use Rattle.packing_terms.specs.Goals.{worth}
-use Rattle.packing_terms.specs.Limits.{most_boxes}
+use Rattle.packing_terms.specs.Limits.{max_boxes}
 use Rattle.packing_terms.specs.Tokens.{PlainToken}
 use Rattle.packing_terms.specs.Tokens.PlainToken.{ValueShort}
 use Rattle.packing_terms.specs.Tokens.PlainToken.{Scales}
@@ -158,7 +158,7 @@ lines_of_parts d (Exchange u v ∷ ts) lines parameters tuples =
     ((parameters.0, parameters.1), lines_of_parts d ts lines.1 parameters.2 tuples)
 
 -- each token of a refutation for a value has a line
-pub bounded_written : (instance : PlainInstance) → IsBounded instance → box_count instance ≤ most_boxes → (goal : ℕ)
+pub bounded_written : (instance : PlainInstance) → IsBounded instance → box_count instance ≤ max_boxes → (goal : ℕ)
     (z : List BoundedToken) → IsBoundedRefutation instance goal z → HaveParameters z
     → HaveBoundedLines (dims instance) z
 bounded_written instance bounded few goal z h parameters =

@@ -3,8 +3,8 @@
 use Rattle.std.proofs.Common.{◌≡◌, ℕ, ◌-◌, ◌≤◌, subst, arith, Bool, true, false, if◌then◌else◌, ltb, List, [], length}
 use Rattle.std.specs.Prelude.{slice_index}
 use Rattle.packing_terms.specs.Packing.{PlainInstance, dims, written_container}
-use Rattle.packing_terms.specs.Limits.{IsInternalInstance, most_height}
-use Rattle.tree_terms.specs.Trees.{Verdict, Yes, No, Decided, Past, outcome, told, count_of}
+use Rattle.packing_terms.specs.Limits.{IsInternalInstance, max_height}
+use Rattle.tree_terms.specs.Trees.{Verdict, Yes, No, Decided, Past, outcome, under_budget, count_of}
 use Rattle.tree_terms.specs.ClassTree.{class_tree}
 use Rattle.tree_terms.specs.Search.{IsRightUnder}
 use Rattle.tree_terms.specs.Levels.{level_by}
@@ -21,11 +21,11 @@ use Rattle.answer_terms.proofs.WalkAccepted.{walk_verdict}
 use Rattle.answer_terms.proofs.Named.{front_names}
 
 module _ (instance : PlainInstance) (limits : IsInternalInstance instance) (plane : dims instance ≡ 2) where
-  pub highest_small : written_container instance 1 ≤ most_height
-  highest_small = subst (λ (d : ℕ). slice_index instance.container (d - 1) ≤ most_height) plane limits.container.last
+  pub highest_small : written_container instance 1 ≤ max_height
+  highest_small = subst (λ (d : ℕ). slice_index instance.container (d - 1) ≤ max_height) plane limits.container.last
 
   right_told : (budget a b : ℕ) (v : Verdict) → IsRightUnder (with_container instance a b) [] v
-      → IsRightSize instance a b (level_by (told budget v))
+      → IsRightSize instance a b (level_by (under_budget budget v))
   right_told budget a b v h = go (ltb budget (count_of v)) v h
     where
       go : (past : Bool) (w : Verdict) → IsRightUnder (with_container instance a b) [] w

@@ -12,7 +12,7 @@ use Rattle.text_terms.proofs.Spelled.{AreWords}
 use Rattle.text_terms.proofs.Back.{word_decimal}
 use Rattle.document_terms.specs.TokenLines.{token_of, token_words, HasLine}
 use Rattle.document_terms.proofs.TokensBack.{tokens_are_read_back}
-use Rattle.verdict_terms.specs.Numbers.{most_coordinate, numbers_line}
+use Rattle.verdict_terms.specs.Numbers.{max_coordinate, numbers_line}
 use Rattle.verdict_terms.specs.Stages.{is_word}
 use Rattle.verdict_terms.proofs.Taken.{numbers_line_is, all_wanted_is}
 use Rattle.answer_terms.proofs.OwnAccepted.{decimal_number}
@@ -24,7 +24,7 @@ use Rattle.front_verdict_terms.specs.Verdicts.{two_by, token_by, line_named, pla
 
 -- numbers that a line can have
 abbrev IsNumber32 : ℕ → Type 0
-IsNumber32 n = n ≤ most_coordinate
+IsNumber32 n = n ≤ max_coordinate
 
 -- a line that can be written and read back
 abbrev pub IsWritten : PlainLine → Type 0
@@ -44,8 +44,8 @@ two_read : (key : List ℕ) (x y : ℕ) → IsNumber32 x → IsNumber32 y
 two_read key x y l m =
     numbers_line_is key 2 (decimal x ∷ decimal y ∷ []) (x ∷ y ∷ []) refl
     (all_wanted_is (decimal x ∷ decimal y ∷ []) (x ∷ y ∷ []) (
-      decimal_number 0 most_coordinate x (omega arith) l (omega arith),
-      (decimal_number 0 most_coordinate y (omega arith) m (omega arith), tt),
+      decimal_number 0 max_coordinate x (omega arith) l (omega arith),
+      (decimal_number 0 max_coordinate y (omega arith) m (omega arith), tt),
     ))
 
 -- its words are plain, and there are some
@@ -126,6 +126,6 @@ in_range (Placing a b places) (PointAt x y) h = refl
 in_range (Placing a b places) (PlaceAt []) h = absurd h
 in_range (Placing a b places) (PlaceAt (x ∷ [])) h = absurd h
 in_range (Placing a b places) (PlaceAt (x ∷ y ∷ [])) h =
-    and_from _ _ (le-leb x most_coordinate h.0) (and_from _ _ (le-leb y most_coordinate h.1) refl)
+    and_from _ _ (le-leb x max_coordinate h.0) (and_from _ _ (le-leb y max_coordinate h.1) refl)
 in_range (Placing a b places) (PlaceAt (x ∷ y ∷ z ∷ zs)) h = absurd h
 in_range (Placing a b places) (TreeToken t) h = refl

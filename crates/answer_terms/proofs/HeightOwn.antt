@@ -7,7 +7,7 @@ use Rattle.std.proofs.Math.ListN.{length-set}
 use Rattle.std.proofs.lemmas.Bool.{eqb-true}
 use Rattle.packing_terms.specs.Packing.{PlainInstance, dims, IsPacking}
 use Rattle.packing_terms.specs.Goals.{with_last_side}
-use Rattle.packing_terms.specs.Limits.{IsInstance, most_height}
+use Rattle.packing_terms.specs.Limits.{IsInstance, max_height}
 use Rattle.packing_terms.specs.Refutation.{IsTooLarge}
 use Rattle.packing_terms.specs.TooLarge.{IsFirstTooWide}
 use Rattle.packing_terms.specs.Tokens.PlainToken.{TooLarge}
@@ -76,7 +76,7 @@ backed_document instance claim backing limits backed =
 -- the coordinates are a packing at height `b`, and the tokens refute height `a`
 record ShowsHeights (instance : PlainInstance) (a b : ℕ) (places : List ℕ) (tokens : List FamilyToken) : Type 0 where
   rising : a < b
-  most : b ≤ most_height
+  most : b ≤ max_height
   packing : IsPacking (with_last_side instance b) places
   refutation : RefutesFamilies (with_last_side instance a) (Free []) tokens
   joining : AreJoining tokens
@@ -130,7 +130,7 @@ least_backed instance a b places tokens limits e shown =
       result = record {
         number = decimal b;
         are = refl;
-        is_number = decimal_number 1 most_height b (omega (arith, e)) most (omega arith);
+        is_number = decimal_number 1 max_height b (omega (arith, e)) most (omega arith);
       };
       filled = heights.filled;
       backs = subst (λ (h : ℕ). AreProved (ArePlaced (with_last_side instance b)) (RefuteHeight Bounded instance h)

@@ -21,7 +21,7 @@ use Rattle.tree_terms.proofs.BinNumbers.{index_found}
 use Rattle.text_terms.specs.Texts.{is_none}
 use Rattle.text_terms.proofs.Spelled.{AreWords, is_plain, number_decimal}
 use Rattle.text_terms.proofs.Back.{word_decimal}
-use Rattle.verdict_terms.specs.Numbers.{most_coordinate}
+use Rattle.verdict_terms.specs.Numbers.{max_coordinate}
 use Rattle.verdict_terms.specs.Form.{AreNumberedLines, AreShared, AreTaken}
 use Rattle.answer_terms.specs.Answers.{Lines, bin_lines, take_lines}
 use Rattle.answer_terms.proofs.Filled.{AreFilled, filled_range}
@@ -34,9 +34,9 @@ line_of_row key d g f v = key ∷ decimal (suc (g v)) ∷ map (λ i. decimal (f 
 
 -- each of n lines has a number below the most, and coordinates
 record AreSmall (most d n : ℕ) (g : ℕ → ℕ) (f : ℕ → ℕ → ℕ) : Type 0 where
-  pub few : most ≤ most_coordinate
+  pub few : most ≤ max_coordinate
   pub numbers : (v : ℕ) → v < n → g v < most
-  pub coordinates : (v i : ℕ) → v < n → i < d → f v i ≤ most_coordinate
+  pub coordinates : (v i : ℕ) → v < n → i < d → f v i ≤ max_coordinate
 
 numbered_are : (key : List ℕ) (most d m : ℕ) (g : ℕ → ℕ) (f : ℕ → ℕ → ℕ) (a n : ℕ) → a + n ≤ m → AreSmall most d m g f
     → AreNumberedLines key most d (map (line_of_row key d g f) (range_with_len a n)) (map g (range_with_len a n))
@@ -89,7 +89,7 @@ numbered_filled key most d n g f some plain small = filled_range (line_of_row ke
 -- the coordinates of a box of a set are small
 kept_place_small : (instance : PlainInstance) (keep places : List ℕ) (v i : ℕ) → IsBounded instance
     → IsPacking (subset instance keep) (places_of instance places keep)
-    → list_any (λ u. u == v) keep ≡ true → i < dims instance → place instance places v i ≤ most_coordinate
+    → list_any (λ u. u == v) keep ≡ true → i < dims instance → place instance places v i ≤ max_coordinate
 kept_place_small instance keep places v i b p here m =
     let found = index_found (λ u. u == v) keep 0 here in
     let l = found.0 in
@@ -98,12 +98,12 @@ kept_place_small instance keep places v i b p here m =
     let inside = p.within (position_or_len (λ u. u == v) keep) i (omega (arith, l, n)) m in
     let moved = place_of instance places keep (position_or_len (λ u. u == v) keep) i l m in
     let s = b.sides i m in
-    subst (λ u. place instance places u i ≤ most_coordinate) same (omega (arith, inside, moved, s))
+    subst (λ u. place instance places u i ≤ max_coordinate) same (omega (arith, inside, moved, s))
 
 -- each box stands in its bin
 bin_place_small : (instance : PlainInstance) (k : ℕ) (bins places : List ℕ) → IsBounded instance
     → IsBinPacking instance k bins places
-    → (v i : ℕ) → v < box_count instance → i < dims instance → place instance places v i ≤ most_coordinate
+    → (v i : ℕ) → v < box_count instance → i < dims instance → place instance places v i ≤ max_coordinate
 bin_place_small instance k bins places b p v i l m =
     let count = p.count in
     let here : IsIn v (in_bin bins (get_or bins v 0)) =
@@ -129,7 +129,7 @@ bins_small instance k numbers b few shown = record {
       (get_or-map-range_with_len (bin_number instance numbers) 0 (box_count instance) v v 0 l (omega arith))
       (shown.packing.numbers v 0 (let n = length-map-range_with_len (bin_number instance numbers) 0
       (box_count instance) in omega (arith, l, n)));
-  coordinates = λ v i l m. subst (λ x. x ≤ most_coordinate) (at_place v i l m)
+  coordinates = λ v i l m. subst (λ x. x ≤ max_coordinate) (at_place v i l m)
       (bin_place_small instance k (bins_in instance numbers) (places_in instance numbers) b shown.packing v i l m);
 }
   where

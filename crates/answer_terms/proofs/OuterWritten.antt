@@ -8,7 +8,7 @@ use Rattle.std.proofs.lemmas.Bool.{cases_lt, eq-eqb, or_left, or_right}
 use Rattle.std.proofs.lemmas.List.{length-map}
 use Rattle.packing_terms.specs.Packing.{PlainInstance, dims, box_count, no_box}
 use Rattle.packing_terms.specs.Goals.{subset}
-use Rattle.packing_terms.specs.Limits.{most_boxes}
+use Rattle.packing_terms.specs.Limits.{max_boxes}
 use Rattle.packing_terms.specs.Sums.{sum_below}
 use Rattle.packing_terms.specs.Tokens.{PlainToken}
 use Rattle.packing_terms.specs.OuterRefutation.{Bins, insert_box, has_box, with_box, placements, bin_named, Choice}
@@ -63,7 +63,7 @@ same_box : (v : ℕ) → eqb v v ≡ true
 same_box v = eq-eqb v v refl
 
 -- a set of boxes of the instance, of at most so many
-subset_bounded : (instance : PlainInstance) (keep : List ℕ) → IsBounded instance → length keep ≤ 2 * most_boxes
+subset_bounded : (instance : PlainInstance) (keep : List ℕ) → IsBounded instance → length keep ≤ 2 * max_boxes
     → IsBounded (subset instance keep)
 subset_bounded instance keep b few = record {
   dimensions = b.dimensions;
@@ -146,7 +146,7 @@ bin_size (us ∷ bins) (suc b) = let e = bin_size bins b in omega (arith, e)
 size_most : (n : ℕ) (bins : Bins) → IsSized n bins → size bins ≤ 2 * n
 size_most n bins sized = let t = tally_most n (λ u. list_any (has_box u) bins) in omega (arith, t, sized)
 
-module _ (instance : PlainInstance) (bounded : IsBounded instance) (few : box_count instance ≤ most_boxes) (k : ℕ) where
+module _ (instance : PlainInstance) (bounded : IsBounded instance) (few : box_count instance ≤ max_boxes) (k : ℕ) where
   bins_nodes_written : {nodes : List Bins} {z : List PlainToken} → AreSized (box_count instance) nodes
       → RefutesBins instance k nodes z → HaveLines (dims instance) z
   bins_nodes_written sized none_left = tt
@@ -193,7 +193,7 @@ taken_few n v c l new few =
     (λ u h. has_inserted u v c.taken ∙ or_right (eqb v u) (has_box u c.taken) h) in
     omega (arith, e, t, few)
 
-module _ (instance : PlainInstance) (bounded : IsBounded instance) (few : box_count instance ≤ most_boxes)
+module _ (instance : PlainInstance) (bounded : IsBounded instance) (few : box_count instance ≤ max_boxes)
     (goal : ℕ) where
   value_nodes_written : {nodes : List Choice} {z : List PlainToken} → AreFew (box_count instance) nodes
       → RefutesValue instance goal nodes z → HaveLines (dims instance) z

@@ -8,7 +8,7 @@ use Rattle.std.proofs.lemmas.List.{get_or-set_same, get_or-set_other}
 use Rattle.packing_terms.specs.declared.Exclusion.{Exclusion}
 use Rattle.packing_terms.specs.Packing.{PlainInstance, dims, box_count, kerf, written_container, IsPacking}
 use Rattle.packing_terms.specs.Goals.{with_last_side}
-use Rattle.packing_terms.specs.Limits.{IsInstance, IsInternalInstance, most_height}
+use Rattle.packing_terms.specs.Limits.{IsInstance, IsInternalInstance, max_height}
 use Rattle.packing_terms.specs.Refutation.{Refutes}
 use Rattle.packing_terms.specs.Tokens.{PlainToken}
 use Rattle.packing_terms.specs.Tokens.PlainToken.{TooLarge}
@@ -44,7 +44,7 @@ use Rattle.answer_terms.proofs.OwnWritten.{IsBounded, internal_bounded, HaveLine
 use Rattle.answer_terms.proofs.OwnWritten.{refuted_written, large_written}
 use Rattle.answer_terms.proofs.OuterWritten.{bins_written, value_written}
 use Rattle.answer_terms.proofs.Numbered.{bins_filled, bins_shared, taken_filled, taken_taken}
-use Rattle.document_terms.specs.Claims.{most_worth}
+use Rattle.document_terms.specs.Claims.{max_worth}
 use Rattle.answer_terms.proofs.Placed.{packing_filled, packing_placed, rows_words}
 
 job_plain : (job : SolvingJob) → AreWords (job_word job ∷ [])
@@ -164,7 +164,7 @@ fit_no heading instance numbers tokens limits h =
 -- ---- strip
 
 -- a level of a strip
-pub level_bounded : (instance : PlainInstance) (h : ℕ) → IsInstance instance → h ≤ most_height
+pub level_bounded : (instance : PlainInstance) (h : ℕ) → IsInstance instance → h ≤ max_height
     → IsBounded (with_last_side instance h)
 level_bounded instance h limits l = record {
   dimensions = (let d = limits.dimensions.1 in omega (arith, d, same));
@@ -180,12 +180,12 @@ level_bounded instance h limits l = record {
     kerf_small i m = limits.kerf.each i m
 
     written_small : (i : ℕ) → i < dims instance → (i ≡ dims instance - 1) ⊎ (i ≢ dims instance - 1)
-        → written_container (with_last_side instance h) i ≤ most_height
+        → written_container (with_last_side instance h) i ≤ max_height
     written_small i m (inl e) =
         let d = limits.dimensions.0 in
         let a : get_or (with_last_side instance h).container (dims instance - 1) 0 ≡ h =
         get_or-set_same instance.container (dims instance - 1) h 0 (omega (arith, d)) in
-        subst (λ (x : ℕ). get_or (with_last_side instance h).container x 0 ≤ most_height) (sym e) (omega (arith, a, l))
+        subst (λ (x : ℕ). get_or (with_last_side instance h).container x 0 ≤ max_height) (sym e) (omega (arith, a, l))
     written_small i m (inr n) =
         let a : get_or (with_last_side instance h).container i 0 ≡ get_or instance.container i 0 =
         get_or-set_other instance.container (dims instance - 1) i h 0 n in
@@ -262,7 +262,7 @@ least_height_backed heading instance h numbers tokens limits plain shown =
       result = record {
         number = decimal h;
         are = refl;
-        is_number = decimal_number 1 most_height h (omega (arith, r)) m (omega arith);
+        is_number = decimal_number 1 max_height h (omega (arith, r)) m (omega arith);
       };
       filled = levels.filled;
       backs = height_plain heading instance (pred h) h _ plain levels.backs;
@@ -453,7 +453,7 @@ greatest_value_backed heading instance v numbers tokens limits plain shown =
       result = record {
         number = decimal v;
         are = refl;
-        is_number = decimal_number 0 most_worth v (omega arith) (omega (arith, m)) (omega arith);
+        is_number = decimal_number 0 max_worth v (omega arith) (omega (arith, m)) (omega arith);
       };
       filled = values.filled;
       backs = value_plain heading instance v (suc v) _ plain values.backs;

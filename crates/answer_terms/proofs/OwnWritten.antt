@@ -5,7 +5,7 @@ use Rattle.packing_terms.specs.declared.Exclusion.{Exclusion}
 use Rattle.packing_terms.specs.declared.ScaleFn.{ScaleFn}
 use Rattle.packing_terms.specs.declared.ScaleFn.TheVariants.{Id, Step, Cut, Count}
 use Rattle.packing_terms.specs.Packing.{PlainInstance, dims, box_count, container_side}
-use Rattle.packing_terms.specs.Limits.{IsInternalInstance, most_boxes, most_height}
+use Rattle.packing_terms.specs.Limits.{IsInternalInstance, max_boxes, max_height}
 use Rattle.packing_terms.proofs.Internal.{container_small}
 use Rattle.packing_terms.specs.Scales.{IsLegalScale, function_at, IsTuple}
 use Rattle.packing_terms.specs.Tokens.{PlainToken}
@@ -47,8 +47,8 @@ tokens_are_lines d (t ∷ ts) h = (tokens_are_read_back d t h.0, tokens_are_line
 -- many boxes as there are, which is few enough.
 pub record IsBounded (instance : PlainInstance) : Type 0 where
   pub dimensions : dims instance ≤ 4
-  pub boxes : box_count instance ≤ 2 * most_boxes
-  pub sides : (i : ℕ) → i < dims instance → container_side instance i ≤ most_height + 100000
+  pub boxes : box_count instance ≤ 2 * max_boxes
+  pub sides : (i : ℕ) → i < dims instance → container_side instance i ≤ max_height + 100000
 
 pub internal_bounded : (instance : PlainInstance) → IsInternalInstance instance → IsBounded instance
 internal_bounded instance limits = record {
@@ -60,7 +60,7 @@ internal_bounded instance limits = record {
 -- a function that is legal for some container side of an instance
 pub record IsLegalSomewhere (f : ScaleFn) : Type 0 where
   pub whole : ℕ
-  pub few : whole ≤ most_height + 100000
+  pub few : whole ≤ max_height + 100000
   pub legal : IsLegalScale f whole
 
 legal_parameter : (f : ScaleFn) (fs : List ScaleFn) → IsLegalSomewhere f → AreWritten fs → AreWritten (f ∷ fs)

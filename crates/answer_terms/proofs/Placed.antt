@@ -13,31 +13,31 @@ use Rattle.packing_terms.proofs.Lengths.{length_parts}
 use Rattle.packing_terms.specs.Sums.{below}
 use Rattle.text_terms.proofs.Spelled.{AreWords, number_decimal}
 use Rattle.text_terms.proofs.Back.{word_decimal}
-use Rattle.verdict_terms.specs.Numbers.{most_coordinate}
+use Rattle.verdict_terms.specs.Numbers.{max_coordinate}
 use Rattle.verdict_terms.specs.Form.{AreCoordinates, ArePlaceLines, ArePlaced}
 use Rattle.answer_terms.specs.Answers.{Lines, place_lines}
 use Rattle.answer_terms.proofs.Filled.{AreFilled, filled_range}
 use Rattle.answer_terms.proofs.OwnWritten.{IsBounded}
 
 -- the words of numbers that are coordinates
-pub coordinates_plain : (g : ℕ → ℕ) (a n : ℕ) → ((i : ℕ) → a ≤ i → i < a + n → g i ≤ most_coordinate)
+pub coordinates_plain : (g : ℕ → ℕ) (a n : ℕ) → ((i : ℕ) → a ≤ i → i < a + n → g i ≤ max_coordinate)
     → AreWords (map (λ i. decimal (g i)) (range_with_len a n))
 coordinates_plain g a zero h = tt
 coordinates_plain g a (suc n) h =
-    let m : g a ≤ most_coordinate = h a (omega arith) (omega arith) in
+    let m : g a ≤ max_coordinate = h a (omega arith) (omega arith) in
     word_decimal (g a) (omega (arith, m)) (map (λ i. decimal (g i)) (range_with_len (a + 1) n))
     (coordinates_plain g (a + 1) n (λ i p q. h i (omega arith) (omega arith)))
 
-pub coordinates_are : (g : ℕ → ℕ) (a n : ℕ) → ((i : ℕ) → a ≤ i → i < a + n → g i ≤ most_coordinate)
+pub coordinates_are : (g : ℕ → ℕ) (a n : ℕ) → ((i : ℕ) → a ≤ i → i < a + n → g i ≤ max_coordinate)
     → AreCoordinates (map (λ i. decimal (g i)) (range_with_len a n)) (map g (range_with_len a n))
 coordinates_are g a zero h = tt
 coordinates_are g a (suc n) h =
-    let m : g a ≤ most_coordinate = h a (omega arith) (omega arith) in (
+    let m : g a ≤ max_coordinate = h a (omega arith) (omega arith) in (
       record { number = number_decimal (g a) (omega (arith, m)); least = omega arith; most = m },
       coordinates_are g (a + 1) n (λ i p q. h i (omega arith) (omega arith)),
     )
 
-place_lines_are : (d : ℕ) (f : ℕ → ℕ → ℕ) (a n : ℕ) → ((v i : ℕ) → a ≤ v → v < a + n → i < d → f v i ≤ most_coordinate)
+place_lines_are : (d : ℕ) (f : ℕ → ℕ → ℕ) (a n : ℕ) → ((v i : ℕ) → a ≤ v → v < a + n → i < d → f v i ≤ max_coordinate)
     → ArePlaceLines d (map (λ v. codes "place" ∷ map (λ i. decimal (f v i)) (below d)) (range_with_len a n))
     (flat_map (λ v. map (λ i. f v i) (below d)) (range_with_len a n))
 place_lines_are d f a zero h = refl
@@ -83,7 +83,7 @@ rows_again d n xs some count =
 
 -- place lines of a list of rows
 pub rows_placed : (d n : ℕ) (xs : List ℕ) → 1 ≤ d → length xs ≡ n * d
-    → ((v i : ℕ) → v < n → i < d → get_or xs (v * d + i) 0 ≤ most_coordinate)
+    → ((v i : ℕ) → v < n → i < d → get_or xs (v * d + i) 0 ≤ max_coordinate)
     → ArePlaceLines d (map (λ v. codes "place" ∷ map (λ i. decimal (get_or xs (v * d + i) 0)) (below d)) (below n)) xs
 rows_placed d n xs some count small =
     subst (ArePlaceLines d (map (λ v. codes "place"
@@ -91,7 +91,7 @@ rows_placed d n xs some count small =
     (rows_again d n xs some count)
     (place_lines_are d (λ v i. get_or xs (v * d + i) 0) 0 n (λ v i p q r. small v i (omega (arith, q)) r))
 
-pub rows_filled : (d n : ℕ) (f : ℕ → ℕ → ℕ) → ((v i : ℕ) → v < n → i < d → f v i ≤ most_coordinate)
+pub rows_filled : (d n : ℕ) (f : ℕ → ℕ → ℕ) → ((v i : ℕ) → v < n → i < d → f v i ≤ max_coordinate)
     → AreFilled (map (λ v. codes "place" ∷ map (λ i. decimal (f v i)) (below d)) (below n))
 rows_filled d n f small =
     filled_range (λ v. codes "place" ∷ map (λ i. decimal (f v i)) (below d)) 0 n
@@ -106,7 +106,7 @@ rows_filled d n f small =
 
 -- the coordinates of a packing are small
 pub places_small : (instance : PlainInstance) (places : List ℕ) → IsBounded instance → IsPacking instance places
-    → (v i : ℕ) → v < box_count instance → i < dims instance → place instance places v i ≤ most_coordinate
+    → (v i : ℕ) → v < box_count instance → i < dims instance → place instance places v i ≤ max_coordinate
 places_small instance places b p v i l m = let a = p.within v i l m in let s = b.sides i m in omega (arith, a, s)
 
 -- the words of place lines with d dimensions and n boxes

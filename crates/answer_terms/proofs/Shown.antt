@@ -10,7 +10,7 @@ use Rattle.packing_terms.specs.Limits.{IsInstance, IsInternalInstance}
 use Rattle.packing_terms.specs.TooLarge.{IsFirstLongerBelow}
 use Rattle.packing_terms.specs.Tokens.PlainToken.{TooLarge}
 use Rattle.packing_terms.proofs.Internal.{written_internal}
-use Rattle.tree_terms.specs.Trees.{Verdict, Yes, No, Decided, Past, outcome, told, count_of}
+use Rattle.tree_terms.specs.Trees.{Verdict, Yes, No, Decided, Past, outcome, under_budget, count_of}
 use Rattle.tree_terms.specs.ClassTree.{class_tree, first_too_large_box, first_too_wide}
 use Rattle.tree_terms.specs.Search.{IsRightUnder}
 use Rattle.tree_terms.specs.Levels.{PlainReached, bin_run, value_run}
@@ -21,7 +21,7 @@ use Rattle.tree_terms.proofs.SpentRuns.{bins_end, value_end}
 use Rattle.reduced_levels.specs.Heights.{height_run_from, DecideHeights}
 use Rattle.reduced_levels.proofs.Heights.{none_decides, keeps_from, end_from}
 use Rattle.document_terms.specs.declared.claim.SolvingJob.{SolvingJob}
-use Rattle.document_terms.specs.Claims.{most_worth}
+use Rattle.document_terms.specs.Claims.{max_worth}
 use Rattle.document_terms.specs.declared.claim.SolvingJob.TheVariants.{Fit, Strip, Bins, Knapsack}
 use Rattle.document_terms.specs.declared.claim.Claim.TheVariants.{LeastHeight, HeightBetween, LeastBins, BinsBetween}
 use Rattle.document_terms.specs.declared.claim.Claim.TheVariants.{GreatestValue, ValueBetween}
@@ -42,7 +42,7 @@ IsAnswer job instance answer = IsAnswerFrom [] job instance answer
 -- ---- fit
 
 pub fit_from : (start : List Exclusion) (instance : PlainInstance) (budget : ℕ) (v : Verdict)
-    → IsRightUnder instance start v → IsAnswerFrom start Fit instance (fit_answer (told budget v))
+    → IsRightUnder instance start v → IsAnswerFrom start Fit instance (fit_answer (under_budget budget v))
 fit_from start instance budget v h = go (ltb budget (count_of v)) v h
   where
     go : (b : Bool) (w : Verdict) → IsRightUnder instance start w
@@ -165,7 +165,7 @@ module _ (instance : PlainInstance) (limits : IsInstance instance) (budget : ℕ
   values_shown : IsAnswer Knapsack instance (knapsack_answer (value_run instance budget scales))
   values_shown = go (value_run instance budget scales).spent refl
     where
-      most : (value_run instance budget scales).refuted ≤ most_worth
+      most : (value_run instance budget scales).refuted ≤ max_worth
       most =
           let high = (value_end instance budget scales).high in
           let all = worth_small 0 (box_count instance) (omega arith) in

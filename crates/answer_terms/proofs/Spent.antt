@@ -5,7 +5,7 @@ use Rattle.std.proofs.lemmas.Bool.{true≢false, cases_Bool, lt-ltb, ltb-true}
 use Rattle.packing_terms.specs.Packing.{PlainInstance, dims, box_count, written_container}
 use Rattle.packing_terms.specs.Limits.{IsInternalInstance}
 use Rattle.packing_terms.specs.Tokens.{PlainToken}
-use Rattle.tree_terms.specs.Trees.{Verdict, Yes, No, Decided, Past, outcome, told, count_of}
+use Rattle.tree_terms.specs.Trees.{Verdict, Yes, No, Decided, Past, outcome, under_budget, count_of}
 use Rattle.tree_terms.specs.ClassTree.{class_tree}
 use Rattle.tree_terms.specs.Levels.{PlainLevel, PlacedBy, RefutedBy, SpentAt, level_by}
 use Rattle.tree_terms.proofs.LevelOrder.{rising_end, spent_exactly as run_spent_exactly}
@@ -13,7 +13,7 @@ use Rattle.tree_terms.proofs.Counts.{class_count}
 use Rattle.front_terms.specs.Fronts.{with_container}
 use Rattle.answer_terms.specs.Walks.{PlainFront, levels_from, spent_front, width_run, height_run, rest_by}
 use Rattle.answer_terms.specs.Walks.{round_by_heights, round_by_widths, round_by, walk_on, walk, size_answer, front_walk}
-use Rattle.answer_terms.specs.Asked.{IsSizeAsked, widest, by_width, by_height, later, HasSpentSize, HasLargeSize}
+use Rattle.answer_terms.specs.Asked.{IsSizeAsked, widest, by_width, by_height, later, HasSpentSize, HasContainerPastBudget}
 
 module _ (answer : ℕ → ℕ → PlainLevel) (most : ℕ) where
   -- a round ends lower
@@ -167,7 +167,7 @@ never_spent : (v : Verdict) → level_by (Decided v) ≡ SpentAt → ⊥
 never_spent (Yes ns c) k = cc
 never_spent (No ts c) k = cc
 
-spent_level : (budget : ℕ) (v : Verdict) → level_by (told budget v) ≡ SpentAt ↔ (budget < count_of v)
+spent_level : (budget : ℕ) (v : Verdict) → level_by (under_budget budget v) ≡ SpentAt ↔ (budget < count_of v)
 spent_level budget v = (there (ltb budget (count_of v)) refl, λ l. rw (lt-ltb budget (count_of v) l) refl)
   where
     there : (b : Bool) → ltb budget (count_of v) ≡ b → level_by (if b then Past else Decided v) ≡ SpentAt
@@ -179,7 +179,7 @@ module _ (instance : PlainInstance) (budget : ℕ) (scales : Bool) where
   tree_verdict : ℕ → ℕ → Verdict
   tree_verdict w b = outcome (class_tree (with_container instance w b) [] scales)
 
-  pub spent_exactly : ((front_walk instance budget scales).complete ≡ false) ↔ HasLargeSize instance budget scales
+  pub spent_exactly : ((front_walk instance budget scales).complete ≡ false) ↔ HasContainerPastBudget instance budget scales
   spent_exactly =
       let both = walk_spent_exactly (size_answer instance budget scales) (written_container instance 0)
       (written_container instance 1) in (
@@ -209,7 +209,7 @@ module _ (instance : PlainInstance) (budget : ℕ) (scales : Bool) where
           (x * box_count instance * (box_count instance - 1) / 2)) (sym plane)
           (class_count (with_container instance w b) (omega arith) [] scales)
 
-      none : HasLargeSize instance budget scales → ⊥
+      none : HasContainerPastBudget instance budget scales → ⊥
       none (w, b, asked, m) = let s = small w b in omega (arith, s, l, m)
 
       go : ((front_walk instance budget scales).complete ≡ true)

@@ -16,7 +16,7 @@ use Rattle.packing_terms.proofs.TooLarge.{too_wide, too_large}
 use Rattle.packing_terms.proofs.Neighbours.{fits_higher, fits_in_more, reaches_lower, least_height, least_bins}
 use Rattle.packing_terms.proofs.Neighbours.{greatest_value}
 use Rattle.scale_terms.proofs.Excess.{excess_law}
-use Rattle.tree_terms.specs.Trees.{Verdict, Yes, No, Decided, Past, outcome, told, count_of}
+use Rattle.tree_terms.specs.Trees.{Verdict, Yes, No, Decided, Past, outcome, under_budget, count_of}
 use Rattle.tree_terms.specs.ClassTree.{class_tree}
 use Rattle.reduced_levels.specs.Heights.{DecideHeights}
 use Rattle.reduced_levels.proofs.Heights.{none_decides}
@@ -131,10 +131,10 @@ module _ (budget : ℕ) where
   claimed (Yes ns c) e = true≢false (sym (ap is_undecided e))
   claimed (No ts c) e = true≢false (sym (ap is_undecided e))
 
-  pub told_undecided : (v : Verdict) → (fit_answer (told budget v) ≡ Undecided) ↔ (budget < count_of v)
+  pub told_undecided : (v : Verdict) → (fit_answer (under_budget budget v) ≡ Undecided) ↔ (budget < count_of v)
   told_undecided v = (there, back)
     where
-      there : fit_answer (told budget v) ≡ Undecided → budget < count_of v
+      there : fit_answer (under_budget budget v) ≡ Undecided → budget < count_of v
       there e = go (cases_lt budget (count_of v))
         where
           go : (budget < count_of v) ⊎ (count_of v ≤ budget) → budget < count_of v
@@ -142,7 +142,7 @@ module _ (budget : ℕ) where
           go (inr l) = absurd (claimed v
               (subst (λ b. fit_answer (if b then Past else Decided v) ≡ Undecided) (le-ltb budget (count_of v) l) e))
 
-      back : budget < count_of v → fit_answer (told budget v) ≡ Undecided
+      back : budget < count_of v → fit_answer (under_budget budget v) ≡ Undecided
       back l = rw (lt-ltb budget (count_of v) l) refl
 
 pub undecided_past : UndecidedExactlyPast

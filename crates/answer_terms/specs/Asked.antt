@@ -5,7 +5,7 @@ use Rattle.packing_terms.specs.Tokens.{PlainToken}
 use Rattle.tree_terms.specs.Trees.{outcome, count_of}
 use Rattle.tree_terms.specs.ClassTree.{class_tree}
 use Rattle.tree_terms.specs.Levels.{PlainLevel, PlacedBy, SpentAt}
-use Rattle.tree_terms.specs.RunEnds.{IsLevelAsked}
+use Rattle.tree_terms.specs.RunEnds.{IsLevelDecided}
 use Rattle.front_terms.specs.Fronts.{with_container}
 use Rattle.answer_terms.specs.Walks.{levels_from, width_run, height_run, size_answer}
 
@@ -15,11 +15,11 @@ use Rattle.answer_terms.specs.Walks.{levels_from, width_run, height_run, size_an
 pub data IsSizeAsked (answer : ℕ → ℕ → PlainLevel) (most : ℕ) : ℕ → ℕ → List PlainToken → ℕ → ℕ → Type 0 where
   widest : {h r : ℕ} {ts : List PlainToken} → IsSizeAsked answer most h r ts most h
   by_width : {h r w : ℕ} {ts : List PlainToken} {ps : List ℕ} → answer most h ≡ PlacedBy ps
-      → IsLevelAsked (λ x. answer x h) (levels_from r ts most ps) w
+      → IsLevelDecided (λ x. answer x h) (levels_from r ts most ps) w
       → IsSizeAsked answer most h r ts w h
   by_height : {h r b : ℕ} {ts : List PlainToken} {ps : List ℕ} → answer most h ≡ PlacedBy ps
       → (width_run answer most h r ts ps).spent ≡ false
-      → IsLevelAsked (λ y. answer (width_run answer most h r ts ps).placed y)
+      → IsLevelDecided (λ y. answer (width_run answer most h r ts ps).placed y)
       (levels_from 0 [] h (width_run answer most h r ts ps).numbers) b
       → IsSizeAsked answer most h r ts (width_run answer most h r ts ps).placed b
   later : {h r w b : ℕ} {ts : List PlainToken} {ps : List ℕ} → answer most h ≡ PlacedBy ps
@@ -40,8 +40,8 @@ abbrev pub HasSpentSize : (ℕ → ℕ → PlainLevel) → ℕ → ℕ → ℕ �
 HasSpentSize answer most h r ts = (w : ℕ) × (b : ℕ) × IsSizeAsked answer most h r ts w b × (answer w b ≡ SpentAt)
 
 -- some container that the walk of an instance decides has more branchings than the budget
-abbrev pub HasLargeSize : PlainInstance → ℕ → Bool → Type 0
-HasLargeSize instance budget scales =
+abbrev pub HasContainerPastBudget : PlainInstance → ℕ → Bool → Type 0
+HasContainerPastBudget instance budget scales =
     (w : ℕ) × (b : ℕ) × IsSizeAsked (size_answer instance budget scales) (written_container instance 0)
     (written_container instance 1) 0 [] w b
     × (budget < count_of (outcome (class_tree (with_container instance w b) [] scales)))

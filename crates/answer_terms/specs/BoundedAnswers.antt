@@ -7,7 +7,7 @@ use Rattle.text_terms.specs.Spelling.{lines_text}
 use Rattle.document_terms.specs.declared.claim.SolvingJob.TheVariants.{Knapsack}
 use Rattle.document_terms.specs.declared.claim.Claim.{Claim}
 use Rattle.document_terms.specs.declared.claim.Claim.TheVariants.{GreatestValue, ValueBetween}
-use Rattle.document_terms.specs.Claims.{result_words, most_worth}
+use Rattle.document_terms.specs.Claims.{result_words, max_worth}
 use Rattle.document_terms.specs.TokenLines.{IsParameter}
 use Rattle.tree_terms.specs.OuterSearch.{AreTakenNumbers}
 use Rattle.bounded_terms.specs.BoundedRefutation.{BoundedToken, Plain, PricedOut, Exchange, IsBoundedRefutation}
@@ -32,7 +32,7 @@ HaveParameters (Exchange u v ∷ ts) = IsParameter u × IsParameter v × HavePar
 -- The numbers reach the placed value, and the tokens refute the refuted value, which is the greater one.
 pub record IsBoundedAnswer (instance : PlainInstance) (answer : BoundedAnswer) : Type 0 where
   pub rising : answer.placed < answer.refuted
-  pub most : answer.refuted ≤ most_worth
+  pub most : answer.refuted ≤ max_worth
   pub packing : AreTakenNumbers instance answer.placed answer.numbers
   pub refutation : IsBoundedRefutation instance answer.refuted answer.tokens
   pub parameters : HaveParameters answer.tokens

@@ -4,7 +4,7 @@
 use Rattle.std.specs.Prelude.{ℕ, suc, ◌<◌, ◌≤◌, ◌==◌, cond, List, [], ◌∷◌, ◌++◌, length, map, codes}
 use Rattle.packing_terms.specs.Packing.{PlainInstance, IsPacking}
 use Rattle.packing_terms.specs.Goals.{with_last_side, HasTooWideBox}
-use Rattle.packing_terms.specs.Limits.{most_height}
+use Rattle.packing_terms.specs.Limits.{max_height}
 use Rattle.packing_terms.specs.TooLarge.{IsFirstTooWide}
 use Rattle.packing_terms.specs.Tokens.PlainToken.{TooLarge}
 use Rattle.text_terms.specs.Spelling.{lines_text}
@@ -39,7 +39,7 @@ AreJoining (Family i vs ∷ ts) = (1 ≤ length vs) × (length vs ≤ most_joini
 -- lower one.
 pub record AreBoundedHeights (instance : PlainInstance) (heights : BoundedHeights) : Type 0 where
   pub rising : heights.refuted < heights.placed
-  pub most : heights.placed ≤ most_height
+  pub most : heights.placed ≤ max_height
   pub narrow : ¬ HasTooWideBox instance
   pub packing : IsPacking (with_last_side instance heights.placed) heights.places
   pub refutation : RefutesFamilies (with_last_side instance heights.refuted) (Free []) heights.tokens

@@ -9,7 +9,7 @@ use Rattle.std.specs.Fmt.{decimal}
 use Rattle.packing_terms.specs.Packing.{PlainInstance, box_count}
 use Rattle.packing_terms.specs.Generator.{made_instance}
 use Rattle.packing_terms.specs.Rank.{total_volume}
-use Rattle.tree_terms.specs.Trees.{PlainOutcome, Decided, Past, Yes, No, outcome, count_of, told}
+use Rattle.tree_terms.specs.Trees.{PlainOutcome, Decided, Past, Yes, No, outcome, count_of, under_budget}
 use Rattle.tree_terms.specs.ClassTree.{class_tree}
 use Rattle.text_terms.specs.Spelling.{lines_text}
 use Rattle.answer_terms.specs.Answers.{Lines, status_of}
@@ -46,5 +46,5 @@ made_text number instance budget decision = lines_text (made_lines number instan
 -- the answer for a number under a budget, with or without scales; the status is that of `fit`
 abbrev pub made_answer : ℕ → ℕ → Bool → JobAnswer
 made_answer number budget scales =
-    let decision = told budget (outcome (class_tree (made_instance number) [] scales)) in
+    let decision = under_budget budget (outcome (class_tree (made_instance number) [] scales)) in
     record { status = status_of (fit_answer decision); text = made_text number (made_instance number) budget decision }

@@ -7,7 +7,7 @@ use Rattle.packing_terms.specs.Limits.{IsInstance}
 use Rattle.packing_terms.specs.Tokens.{PlainToken}
 use Rattle.symmetry_terms.specs.Facts.{symmetry_facts}
 use Rattle.text_terms.specs.Spelling.{lines_text}
-use Rattle.tree_terms.specs.Trees.{PlainOutcome, outcome, told, count_of}
+use Rattle.tree_terms.specs.Trees.{PlainOutcome, outcome, under_budget, count_of}
 use Rattle.tree_terms.specs.ClassTree.{class_tree, first_too_wide}
 use Rattle.reduced_levels.specs.Heights.{reduced_height_run}
 use Rattle.document_terms.specs.declared.claim.SolvingJob.{SolvingJob}
@@ -25,7 +25,7 @@ use Rattle.answer_terms.specs.declared.job.ReducedJob.TheVariants.{Fit, Strip}
 
 -- what is told of the class tree that begins with the symmetry facts
 abbrev pub reduced_outcome : ℕ → Bool → PlainInstance → PlainOutcome
-reduced_outcome budget scales instance = told budget (outcome (class_tree instance (symmetry_facts instance) scales))
+reduced_outcome budget scales instance = under_budget budget (outcome (class_tree instance (symmetry_facts instance) scales))
 
 unfoldable pub reduced_solved : ReducedJob → ℕ → Bool → PlainInstance → Answer
 reduced_solved Fit budget scales instance = fit_answer (reduced_outcome budget scales instance)

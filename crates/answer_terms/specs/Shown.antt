@@ -4,7 +4,7 @@ use Rattle.std.specs.Prelude.{ℕ, pred, suc, ◌-◌, ◌<◌, ◌≤◌, ◌�
 use Rattle.packing_terms.specs.declared.Exclusion.{Exclusion}
 use Rattle.packing_terms.specs.Packing.{PlainInstance, dims, box_count, IsPacking}
 use Rattle.packing_terms.specs.Goals.{with_last_side}
-use Rattle.packing_terms.specs.Limits.{IsInstance, most_height}
+use Rattle.packing_terms.specs.Limits.{IsInstance, max_height}
 use Rattle.packing_terms.specs.Tokens.{PlainToken}
 use Rattle.packing_terms.specs.Tokens.PlainToken.{TooLarge}
 use Rattle.packing_terms.specs.Refutation.{Refutes, IsTooLarge}
@@ -14,7 +14,7 @@ use Rattle.tree_terms.specs.ClassTree.{class_tree}
 use Rattle.tree_terms.specs.OuterSearch.{AreBinNumbers, AreTakenNumbers}
 use Rattle.document_terms.specs.declared.claim.SolvingJob.{SolvingJob}
 use Rattle.document_terms.specs.declared.claim.Claim.{Claim}
-use Rattle.document_terms.specs.Claims.{job_of, most_worth, IsTrueOf}
+use Rattle.document_terms.specs.Claims.{job_of, max_worth, IsTrueOf}
 use Rattle.document_terms.specs.declared.claim.SolvingJob.TheVariants.{Fit}
 use Rattle.document_terms.specs.declared.claim.Claim.TheVariants.{Fitting, NotFitting, LeastHeight, HeightBetween}
 use Rattle.document_terms.specs.declared.claim.Claim.TheVariants.{NoHeight, LeastBins, BinsBetween, NoBins}
@@ -27,7 +27,7 @@ use Rattle.answer_terms.specs.Solved.{solved}
 pub record ShowsHeight (start : List Exclusion) (instance : PlainInstance) (refuted placed : ℕ) (numbers : List ℕ)
     (tokens : List PlainToken) : Type 0 where
   pub rising : refuted < placed
-  pub most : placed ≤ most_height
+  pub most : placed ≤ max_height
   pub packing : IsPacking (with_last_side instance placed) numbers
   pub refutation : Refutes (with_last_side instance refuted) start tokens
 
@@ -43,7 +43,7 @@ pub record ShowsBins (instance : PlainInstance) (refuted placed : ℕ) (numbers 
 pub record ShowsValue (instance : PlainInstance) (placed refuted : ℕ) (numbers : List ℕ) (tokens : List PlainToken) :
     Type 0 where
   pub rising : placed < refuted
-  pub most : refuted ≤ most_worth
+  pub most : refuted ≤ max_worth
   pub packing : AreTakenNumbers instance placed numbers
   pub refutation : IsValueRefutation instance refuted tokens
 

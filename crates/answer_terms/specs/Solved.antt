@@ -3,7 +3,7 @@
 use Rattle.std.specs.Prelude.{ℕ, suc, Bool, true, false, List, [], ◌∷◌, Option, Some, None}
 use Rattle.packing_terms.specs.Packing.{PlainInstance}
 use Rattle.packing_terms.specs.Tokens.PlainToken.{TooLarge}
-use Rattle.tree_terms.specs.Trees.{PlainOutcome, Decided, Past, Yes, No, outcome, told}
+use Rattle.tree_terms.specs.Trees.{PlainOutcome, Decided, Past, Yes, No, outcome, under_budget}
 use Rattle.tree_terms.specs.ClassTree.{class_tree, first_too_large_box, first_too_wide}
 use Rattle.tree_terms.specs.Levels.{PlainReached, height_run, bin_run, value_run}
 use Rattle.document_terms.specs.declared.claim.SolvingJob.{SolvingJob}
@@ -50,7 +50,7 @@ knapsack_answer r = reached_answer r (GreatestValue r.placed) (ValueBetween r.pl
 
 -- the answer of a job under a budget, with or without scales
 unfoldable pub solved : SolvingJob → ℕ → Bool → PlainInstance → Answer
-solved Fit budget scales instance = fit_answer (told budget (outcome (class_tree instance [] scales)))
+solved Fit budget scales instance = fit_answer (under_budget budget (outcome (class_tree instance [] scales)))
 solved Strip budget scales instance = strip_answer (first_too_wide instance) (height_run instance budget scales)
 solved Bins budget scales instance = bins_answer (first_too_large_box instance) (bin_run instance budget scales)
 solved Knapsack budget scales instance = knapsack_answer (value_run instance budget scales)

@@ -5,7 +5,7 @@ use Rattle.packing_terms.specs.Limits.{IsInternalInstance}
 use Rattle.front_terms.specs.declared.answers.FrontVerdict.TheVariants.{Good}
 use Rattle.front_terms.specs.Fronts.{IsClaimed}
 use Rattle.answer_terms.specs.Walks.{PlainFront, sizes, front_walk}
-use Rattle.answer_terms.specs.Asked.{HasLargeSize}
+use Rattle.answer_terms.specs.Asked.{HasContainerPastBudget}
 use Rattle.front_terms.specs.Verdicts.{front_verdict, points_named}
 use Rattle.answer_terms.specs.WalkLines.{front_lines}
 
@@ -30,7 +30,7 @@ FrontsAreNamed = (front : PlainFront) → points_named (front_lines front) ≡ s
 -- budget; so a budget of 3 to the number of pairs in both dimensions, less 1, is always enough.
 pub record WalksAreSpentExactly : Type 0 where
   pub spent : (instance : PlainInstance) (budget : ℕ) (scales : Bool)
-      → ((front_walk instance budget scales).complete ≡ false) ↔ HasLargeSize instance budget scales
+      → ((front_walk instance budget scales).complete ≡ false) ↔ HasContainerPastBudget instance budget scales
   pub enough : (instance : PlainInstance) (budget : ℕ) (scales : Bool) → IsInternalInstance instance → dims instance ≡ 2
       → 3 ^ (dims instance * box_count instance * (box_count instance - 1) / 2) ≤ budget + 1
       → (front_walk instance budget scales).complete ≡ true

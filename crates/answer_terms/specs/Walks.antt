@@ -7,9 +7,9 @@
 use Rattle.std.specs.Prelude.{ℕ, zero, suc, Bool, true, false, List, [], ◌∷◌, ◌++◌, map}
 use Rattle.packing_terms.specs.Packing.{PlainInstance, written_container}
 use Rattle.packing_terms.specs.Tokens.{PlainToken}
-use Rattle.tree_terms.specs.Trees.{outcome, told}
+use Rattle.tree_terms.specs.Trees.{outcome, under_budget}
 use Rattle.tree_terms.specs.ClassTree.{class_tree}
-use Rattle.tree_terms.specs.Levels.{PlainLevel, PlacedBy, RefutedBy, SpentAt, PlainReached, run_levels, level_by}
+use Rattle.tree_terms.specs.Levels.{PlainLevel, PlacedBy, RefutedBy, SpentAt, PlainReached, bisect_levels, level_by}
 use Rattle.front_terms.specs.Fronts.{with_container}
 
 -- a container that is refuted by the tokens
@@ -69,11 +69,11 @@ module _ (answer : ℕ → ℕ → PlainLevel) (most : ℕ) where
   -- the widths at a height, from one that is refuted and the greatest one
   abbrev pub width_run : ℕ → ℕ → List PlainToken → List ℕ → PlainReached
   width_run height refuted tokens places =
-      run_levels (λ width. answer width height) (levels_from refuted tokens most places)
+      bisect_levels (λ width. answer width height) (levels_from refuted tokens most places)
 
   -- the heights at a width, from 0 and one that is placed
   abbrev pub height_run : ℕ → ℕ → List ℕ → PlainReached
-  height_run width height places = run_levels (λ h. answer width h) (levels_from 0 [] height places)
+  height_run width height places = bisect_levels (λ h. answer width h) (levels_from 0 [] height places)
 
   -- behind a point: where a height is left below it the walk goes on
   abbrev pub rest_by : (ℕ → ℕ → List PlainToken → PlainFront) → ℕ → ℕ → List PlainToken → PlainFront
@@ -120,7 +120,7 @@ walk answer most height = walk_on answer most (suc height) height 0 []
 -- what is answered for a container of these written sides, under a budget
 abbrev pub size_answer : PlainInstance → ℕ → Bool → ℕ → ℕ → PlainLevel
 size_answer instance budget scales width height =
-    level_by (told budget (outcome (class_tree (with_container instance width height) [] scales)))
+    level_by (under_budget budget (outcome (class_tree (with_container instance width height) [] scales)))
 
 -- the walk of an instance
 abbrev pub front_walk : PlainInstance → ℕ → Bool → PlainFront

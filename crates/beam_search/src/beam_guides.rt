@@ -1,6 +1,6 @@
 //! What orders the nodes of a beam: the less the better.
 
-use fill_search::Turned;
+use fill_search::OrientedInstance;
 
 /// What a node is judged by: its boxes, their area and value, the lost area, on how many sides the
 /// last box is flush, and the segments before it.
@@ -38,7 +38,7 @@ pub struct Guides {
 
 impl Guides {
     /// For packings of all boxes: no more is lost than the container has to spare.
-    pub fn for_all(turned: &Turned, kind: Kind) -> Guides {
+    pub fn for_all(turned: &OrientedInstance, kind: Kind) -> Guides {
         let total = turned.volume_of_all().min(u128::from(u64::MAX)) as u64;
         let room = turned.room().min(u128::from(u64::MAX)) as u64;
         Guides {
@@ -52,7 +52,7 @@ impl Guides {
     }
 
     /// For boxes of a great value, where a unit of the area may be worth this fraction.
-    pub fn for_values(turned: &Turned, worth: u64, unit: u64) -> Guides {
+    pub fn for_values(turned: &OrientedInstance, worth: u64, unit: u64) -> Guides {
         Guides {
             most_lost: u64::MAX,
             worth,

@@ -4,9 +4,9 @@ use crate::beam::Beam;
 use crate::beam_guides::{Guides, Kind};
 use box_instances::{Instance, NoMemory};
 use fill_search::{
-    Incumbent, Turned, clear, copy_into, order_by_value, side, size, turns_of, volumes,
+    Incumbent, OrientedInstance, clear, copy_into, order_by_value, side, size, turns_of, volumes,
 };
-use loose_lists::{at, zeros};
+use lenient_lists::{at, zeros};
 use std::alloc::Global;
 
 // The width of the first beams. Now and then a narrow beam finds what wider ones miss.
@@ -20,7 +20,7 @@ const MOST_STEPS: u32 = 128;
 /// The memory of beams in both directions.
 #[derive(Drop)]
 pub struct Beams {
-    turns: Vec<Turned>,
+    turns: Vec<OrientedInstance>,
     beam: Beam,
     widest: usize,
     volumes: Vec<u64>,

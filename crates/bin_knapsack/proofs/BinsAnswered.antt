@@ -3,7 +3,7 @@ use Rattle.std.proofs.Common.{◌≡◌, ℕ, ◌+◌, ◌-◌, ◌*◌, ◌/◌
 use Rattle.std.proofs.lemmas.Bool.{true≢false}
 use Rattle.packing_terms.specs.Packing.{PlainInstance, dims, box_count}
 use Rattle.packing_terms.specs.Goals.{FitsInBins, HasTooLargeBox, IsLeastBins}
-use Rattle.packing_terms.specs.Limits.{IsInternalInstance, most_boxes}
+use Rattle.packing_terms.specs.Limits.{IsInternalInstance, max_boxes}
 use Rattle.packing_terms.specs.Sums.{sum_below}
 use Rattle.packing_terms.specs.TooLarge.{IsFirstTooLarge}
 use Rattle.packing_terms.specs.OuterRefutation.{IsBinRefutation}
@@ -54,7 +54,7 @@ module _ (instance : PlainInstance) (limits : IsInternalInstance instance) (smal
   ended = subst (λ (y : PlainReached). IsRisingEnd (first_bins instance scales) y) (sym run)
       (bins_end instance limits budget scales)
 
-  pub placed_small : r.placed ≤ most_boxes
+  pub placed_small : r.placed ≤ max_boxes
   placed_small = let a = ended.high in let b = limits.boxes.count.1 in omega (arith, a, b)
 
   pub true_told : (b : Bins) → Tells r b → AreTrueBins instance b

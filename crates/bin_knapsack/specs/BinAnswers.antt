@@ -7,7 +7,7 @@ use Rattle.packing_terms.specs.OuterRefutation.{IsBinRefutation}
 use Rattle.packing_terms.specs.Tokens.{PlainToken}
 use Rattle.tree_terms.specs.OuterSearch.{AreBinNumbers}
 use Rattle.tree_terms.specs.Levels.{PlainReached, bin_run}
-use Rattle.tree_terms.specs.RunEnds.{HasLargeCount}
+use Rattle.tree_terms.specs.RunEnds.{HasBinCountPastBudget}
 use Rattle.bin_knapsack.specs.declared.bins.Bins.{Bins}
 use Rattle.bin_knapsack.specs.declared.bins.Bins.TheVariants.{Least, Between, NoneFits}
 
@@ -66,8 +66,8 @@ AreTrueBins instance (NoneFits v i) = (k : ℕ) → ¬ FitsInBins instance k
 
 -- `Between` exactly where some number of bins on the run has more branchings than the budget
 abbrev pub IsSpentExactly : PlainInstance → ℕ → Bool → Bins → Type 0
-IsSpentExactly instance budget scales (Least bins numbers tokens) = ¬ HasLargeCount instance budget scales
-IsSpentExactly instance budget scales (Between refuted tokens bins numbers) = HasLargeCount instance budget scales
+IsSpentExactly instance budget scales (Least bins numbers tokens) = ¬ HasBinCountPastBudget instance budget scales
+IsSpentExactly instance budget scales (Between refuted tokens bins numbers) = HasBinCountPastBudget instance budget scales
 IsSpentExactly instance budget scales (NoneFits v i) = Unit {0}
 
 -- the answer isn't `Between`

@@ -6,7 +6,7 @@ use Rattle.packing_terms.specs.OuterRefutation.{IsValueRefutation}
 use Rattle.packing_terms.specs.Tokens.{PlainToken}
 use Rattle.tree_terms.specs.OuterSearch.{AreTakenNumbers}
 use Rattle.tree_terms.specs.Levels.{PlainReached, value_run}
-use Rattle.tree_terms.specs.RunEnds.{HasLargeWorth}
+use Rattle.tree_terms.specs.RunEnds.{HasValuePastBudget}
 use Rattle.bin_knapsack.specs.declared.choice.Choice.{Choice}
 use Rattle.bin_knapsack.specs.declared.choice.Choice.TheVariants.{Greatest, Between}
 
@@ -58,8 +58,8 @@ IsTrueChoice instance (Between placed numbers refuted tokens) =
 
 -- `Between` exactly where some value on the run has more branchings than the budget
 abbrev pub IsSpentExactly : PlainInstance → ℕ → Bool → Choice → Type 0
-IsSpentExactly instance budget scales (Greatest value numbers tokens) = ¬ HasLargeWorth instance budget scales
-IsSpentExactly instance budget scales (Between placed numbers refuted tokens) = HasLargeWorth instance budget scales
+IsSpentExactly instance budget scales (Greatest value numbers tokens) = ¬ HasValuePastBudget instance budget scales
+IsSpentExactly instance budget scales (Between placed numbers refuted tokens) = HasValuePastBudget instance budget scales
 
 -- the answer isn't `Between`
 abbrev pub IsFinal : Choice → Type 0

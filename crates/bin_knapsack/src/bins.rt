@@ -1,5 +1,5 @@
 //! What is answered for bins.
-use proof_tree::TokenList;
+use proof_tree::CompactTokens;
 
 /// What is answered for bins. The numbers are, of each box in order, its bin, counted from 0, and
 /// its coordinates, such that the boxes of each bin are a packing.
@@ -13,11 +13,11 @@ pub enum Bins {
     Least {
         bins: u32,
         numbers: Vec<u32>,
-        tokens: TokenList,
+        tokens: CompactTokens,
     },
     Between {
         refuted: u32,
-        tokens: TokenList,
+        tokens: CompactTokens,
         bins: u32,
         numbers: Vec<u32>,
     },

@@ -1,5 +1,5 @@
 //! What is answered for a value.
-use proof_tree::TokenList;
+use proof_tree::CompactTokens;
 
 /// What is answered for the greatest value of boxes that fit together. The numbers are, of each
 /// taken box by rising number, that number, counted from 0, and its coordinates, which are a
@@ -13,12 +13,12 @@ pub enum Choice {
     Greatest {
         value: u64,
         numbers: Vec<u32>,
-        tokens: TokenList,
+        tokens: CompactTokens,
     },
     Between {
         placed: u64,
         numbers: Vec<u32>,
         refuted: u64,
-        tokens: TokenList,
+        tokens: CompactTokens,
     },
 }

@@ -11,7 +11,7 @@ use crate::Choice;
 use crate::values::decide_value;
 use box_instances::{Instance, NoMemory};
 use level_search::Reached;
-use proof_tree::{Token, TokenList};
+use proof_tree::{CompactTokens, Token};
 use set_search::SetSearch;
 use std::alloc::Global;
 use std::sync::Wait;
@@ -31,11 +31,11 @@ fn whole_worth(instance: &Instance) -> u64
 }
 
 // The refutation of a value above what all boxes are worth.
-fn value_short(alloc: Global, instance: &Instance) -> Result<TokenList, NoMemory>
+fn value_short(alloc: Global, instance: &Instance) -> Result<CompactTokens, NoMemory>
     ensures { IfOk result (λ tokens. tokens
         ≡ (first_values instance.now).tokens) }
 {
-    TokenList::of_one(alloc, Token::ValueShort)
+    CompactTokens::of_one(alloc, Token::ValueShort)
 }
 
 /// The first levels of a run of values: one more than all boxes are worth is refuted, and 0 is

@@ -2,7 +2,7 @@
 ghost use Rattle.std.specs.Prelude.{◌≡◌, ◌<◌, ◌≤◌, ◌+◌, ◌-◌, ◌*◌, ◌/◌, ◌^◌, suc, false, None, IfOk};
 ghost use Rattle.packing_terms.specs.Packing.{dims, box_count};
 ghost use Rattle.packing_terms.specs.Goals.{HasTooLargeBox};
-ghost use Rattle.packing_terms.specs.Limits.{most_boxes};
+ghost use Rattle.packing_terms.specs.Limits.{max_boxes};
 ghost use Rattle.packing_terms.specs.Scales.{SidesFit};
 ghost use Rattle.packing_terms.specs.Sums.{sum_below};
 ghost use Rattle.tree_terms.specs.ClassTree.{first_too_large_box};
@@ -12,12 +12,12 @@ ghost use Rattle.bin_knapsack.specs.BinAnswers.{Tells, IsAnswer, AreTrueBins, Is
 
 use crate::Bins;
 use crate::counts::decide_bins;
-use crate::spread::spread_all;
+use crate::spread::one_box_per_bin;
 use bin_search::BinTree;
 use box_instances::{Instance, NoMemory};
 use class_search::first_too_large;
 use level_search::Reached;
-use proof_tree::{Outcome, TokenList};
+use proof_tree::{CompactTokens, Outcome};
 use set_search::SetSearch;
 use std::alloc::Global;
 use std::sync::Wait;
@@ -25,7 +25,7 @@ use std::thread::Threads;
 use work_share::{Gate, Settings, Tree};
 
 // The refutation of no bins at all.
-fn no_bins(alloc: Global, instance: &Instance, scales: bool) -> Result<TokenList, NoMemory>
+fn no_bins(alloc: Global, instance: &Instance, scales: bool) -> Result<CompactTokens, NoMemory>
     requires { SidesFit instance.now }
     ensures { IfOk result (λ tokens. tokens
         ≡ (first_bins instance.now scales).tokens) }
@@ -59,7 +59,7 @@ fn bisect_bins<R: Threads + Wait + Sync, G: Gate + Sync>(
     // For the proof alone: tells the limits of the instance.
     let _limits = instance.len();
     let mut search = SetSearch::new(alloc, instance, settings.scales)?;
-    let numbers = spread_all(alloc, instance)?;
+    let numbers = one_box_per_bin(alloc, instance)?;
     let tokens = no_bins(alloc, instance, settings.scales)?;
     let mut reached = Reached::starting(0, tokens, u64::from(instance.len()), numbers);
     while let Some(level) = reached.next_level() {
@@ -74,7 +74,7 @@ fn bisect_bins<R: Threads + Wait + Sync, G: Gate + Sync>(
 fn told(reached: Reached) -> Bins
     requires rising { reached.refuted < reached.placed }
     requires beside { reached.spent ≡ false → suc reached.refuted ≡ reached.placed }
-    requires limit { reached.placed ≤ most_boxes }
+    requires limit { reached.placed ≤ max_boxes }
     ensures { Tells (plain_reached reached) result }
 {
     if reached.spent {

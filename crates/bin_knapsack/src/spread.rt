@@ -1,6 +1,6 @@
 //! Each box alone in a bin.
 ghost use Rattle.std.specs.Prelude.{◌≡◌, ◌++◌, OnOk, IfOk};
-ghost use Rattle.tree_terms.specs.Levels.{spread_numbers};
+ghost use Rattle.tree_terms.specs.Levels.{one_bin_each};
 ghost use Rattle.bin_knapsack.specs.Alone.{alone};
 
 use box_instances::{Instance, NoMemory};
@@ -22,8 +22,8 @@ fn push_alone(numbers: &mut Vec<u32>, dims: u32, bin: u32) -> Result<(), NoMemor
 }
 
 // A bin for each box, with the box at the origin.
-pub(crate) fn spread_all(alloc: Global, instance: &Instance) -> Result<Vec<u32>, NoMemory>
-    ensures { IfOk result (λ numbers. numbers.items ≡ spread_numbers instance.now) }
+pub(crate) fn one_box_per_bin(alloc: Global, instance: &Instance) -> Result<Vec<u32>, NoMemory>
+    ensures { IfOk result (λ numbers. numbers.items ≡ one_bin_each instance.now) }
 {
     let mut numbers = Vec::new(alloc);
     for v in 0..instance.len() {

@@ -10,9 +10,9 @@ use Rattle.packing_terms.specs.Tokens.PlainToken.{Assign, SetRefuted}
 use Rattle.packing_terms.specs.OuterRefutation.{Bins, with_box, placements}
 use Rattle.packing_terms.proofs.WithBoxes.{child_is}
 use Rattle.packing_terms.specs.Rank.{ranked}
-use Rattle.tree_terms.specs.Trees.{SearchTree, Verdict, Yes, No, Decided, Past, outcome, told, count_of}
+use Rattle.tree_terms.specs.Trees.{SearchTree, Verdict, Yes, No, Decided, Past, outcome, under_budget, count_of}
 use Rattle.tree_terms.specs.OuterTrees.{set_verdict, with_answer, bin_child, bin_node}
-use Rattle.tree_terms.specs.Paths.{most_budget, Leaf, Splits, node_told}
+use Rattle.tree_terms.specs.Paths.{max_budget, Leaf, Splits, node_view}
 use Rattle.tree_terms.proofs.Told.{told_past}
 use Rattle.set_search.proofs.Reaching.{next_box}
 use Rattle.set_search.proofs.Verdicts.{finished}
@@ -25,26 +25,26 @@ use Rattle.bin_search.proofs.Walking.{child_counts}
 
 -- a node whose own count is past every budget is told as a leaf, and so is one with no box left
 past_told : (instance : PlainInstance) (scales : Bool) (k : ℕ) (rest : List ℕ) (bins : Bins) (answers : List (List ℕ))
-    (own : ℕ) → most_budget < own
-    → node_told (bin_node instance scales k rest bins answers own) ≡ Leaf
+    (own : ℕ) → max_budget < own
+    → node_view (bin_node instance scales k rest bins answers own) ≡ Leaf
 past_told instance scales k [] bins answers own l = refl
-past_told instance scales k (v ∷ vs) bins answers own l = rw (lt-ltb most_budget own l) refl
+past_told instance scales k (v ∷ vs) bins answers own l = rw (lt-ltb max_budget own l) refl
 
 -- a node with a box left is told as a split
 pub split_told : (instance : PlainInstance) (scales : Bool) (k placed : ℕ) (bins : Bins) (answers : List (List ℕ))
-    (own : ℕ) → placed < length (ranked instance) → own ≤ most_budget
+    (own : ℕ) → placed < length (ranked instance) → own ≤ max_budget
     → Splits (Assign (suc (box_at instance placed))) own (length (placements k bins (box_at instance placed)))
-    ≡ node_told (bin_node instance scales k (drop placed (ranked instance)) bins answers own)
+    ≡ node_view (bin_node instance scales k (drop placed (ranked instance)) bins answers own)
 split_told instance scales k placed bins answers own there l =
-    sym (go (cases_Bool (ltb most_budget own)))
-    ∙ ap (λ us. node_told (bin_node instance scales k us bins answers own))
+    sym (go (cases_Bool (ltb max_budget own)))
+    ∙ ap (λ us. node_view (bin_node instance scales k us bins answers own))
     (sym (next_box (ranked instance) placed there))
   where
-    go : (ltb most_budget own ≡ true) ⊎ (ltb most_budget own ≡ false)
-        → (if ltb most_budget own then Leaf else Splits (Assign (suc (box_at instance placed))) own
+    go : (ltb max_budget own ≡ true) ⊎ (ltb max_budget own ≡ false)
+        → (if ltb max_budget own then Leaf else Splits (Assign (suc (box_at instance placed))) own
         (length (placements k bins (box_at instance placed))))
         ≡ Splits (Assign (suc (box_at instance placed))) own (length (placements k bins (box_at instance placed)))
-    go (inl e) = absurd (let m = ltb-true most_budget own e in omega (arith, l, m))
+    go (inl e) = absurd (let m = ltb-true max_budget own e in omega (arith, l, m))
     go (inr e) = rw e refl
 
 module _ (t : PlainBinTree) (limits : IsInternalInstance t.instance) (placed : ℕ) (bins : Bins)
@@ -77,14 +77,14 @@ module _ (t : PlainBinTree) (limits : IsInternalInstance t.instance) (placed : �
       (with_answer bins b (grown bins (box_at t.instance placed) b))
       (with_answer (answers_of t.instance t.scales bins) b numbers) count)
 
-  pub step_past : (cap : ℕ) → cap ≤ count_of set → Past ≡ told cap (outcome (child_tree t placed bins b))
+  pub step_past : (cap : ℕ) → cap ≤ count_of set → Past ≡ under_budget cap (outcome (child_tree t placed bins b))
   step_past cap l =
       let k = child_counts t.instance t.scales t.bins (drop (placed + 1) (ranked t.instance))
       (with_answer bins b (grown bins (box_at t.instance placed) b)) (answers_of t.instance t.scales bins) b set in
       sym (told_past cap (outcome (child_tree t placed bins b)) (omega (arith, k, l)))
 
   pub step_refuted : (cap : ℕ) (ts : List PlainToken) (cost own : ℕ) → set ≡ No ts cost → own ≡ 1 + cost → own ≤ cap
-      → Decided (No (SetRefuted (Some (suc b)) ∷ ts) own) ≡ told cap (outcome (child_tree t placed bins b))
+      → Decided (No (SetRefuted (Some (suc b)) ∷ ts) own) ≡ under_budget cap (outcome (child_tree t placed bins b))
   step_refuted cap ts cost own e f l =
       finished cap (No (SetRefuted (Some (suc b)) ∷ ts) own) (outcome (child_tree t placed bins b))
       (ap (λ n. No (SetRefuted (Some (suc b)) ∷ ts) n) f ∙ ap (λ w. outcome (below w)) (sym e)) l
@@ -104,15 +104,15 @@ module _ (t : PlainBinTree) (limits : IsInternalInstance t.instance) (placed : �
   step_placed ns pack = next_placed t.instance limits t.bins placed bins (answers_of t.instance t.scales bins) a.node
       a.there b near ns pack
 
-  pub step_past_told : most_budget ≤ count_of set → Leaf ≡ node_told (child_tree t placed bins b)
+  pub step_past_told : max_budget ≤ count_of set → Leaf ≡ node_view (child_tree t placed bins b)
   step_past_told l = sym (go set l)
     where
-      go : (w : Verdict) → most_budget ≤ count_of w → node_told (below w) ≡ Leaf
+      go : (w : Verdict) → max_budget ≤ count_of w → node_view (below w) ≡ Leaf
       go (No ts n) m = refl
       go (Yes ns n) m = past_told t.instance t.scales t.bins (drop (placed + 1) (ranked t.instance))
           (with_answer bins b (grown bins (box_at t.instance placed) b))
           (with_answer (answers_of t.instance t.scales bins) b ns) (1 + n) (omega (arith, m))
 
   pub step_refuted_told : (ts : List PlainToken) (cost : ℕ) → set ≡ No ts cost
-      → Leaf ≡ node_told (child_tree t placed bins b)
-  step_refuted_told ts cost e = sym (ap (λ w. node_told (below w)) e)
+      → Leaf ≡ node_view (child_tree t placed bins b)
+  step_refuted_told ts cost e = sym (ap (λ w. node_view (below w)) e)

@@ -1,7 +1,7 @@
 //! The nodes of a bin tree.
 ghost use Rattle.std.specs.Prelude.{◌≡◌, ◌+◌, ◌≤◌, pred, [], length, slice_index_or, IfOk, OnOk};
 ghost use Rattle.packing_terms.specs.Goals.{IsBoxSet};
-ghost use Rattle.packing_terms.specs.Limits.{most_boxes};
+ghost use Rattle.packing_terms.specs.Limits.{max_boxes};
 ghost use Rattle.packing_terms.specs.OuterRefutation.{insert_box};
 ghost use Rattle.tree_terms.specs.OuterTrees.{with_answer};
 ghost use Rattle.set_search.specs.Children.{IsChild};
@@ -10,7 +10,7 @@ ghost use Rattle.bin_search.specs.Nodes.{child_count, plain_placed, plain_change
 
 use crate::lists::{replace_list, restore_list};
 use box_instances::NoMemory;
-use proof_tree::TokenList;
+use proof_tree::CompactTokens;
 use set_search::{Child, SetSearch};
 use std::alloc::Global;
 
@@ -58,7 +58,7 @@ pub(crate) fn grow_bin(
     v: u32,
     left: u64,
     bin: Option<u32>,
-    tokens: &mut TokenList,
+    tokens: &mut CompactTokens,
 ) -> Result<Child, NoMemory>
     requires { IsBoxSet search.old.instance
         (insert_box v (slice_index_or (lists_of bins.now) b [])) }
@@ -68,9 +68,9 @@ pub(crate) fn grow_bin(
         tokens.old tokens.new child) }
 {
     if b < bins.len() {
-        search.grow(alloc, bins[b].as_slice(), v, left, bin, tokens)
+        search.decide_with_box(alloc, bins[b].as_slice(), v, left, bin, tokens)
     } else {
-        search.grow(alloc, &[], v, left, bin, tokens)
+        search.decide_with_box(alloc, &[], v, left, bin, tokens)
     }
 }
 
@@ -81,7 +81,7 @@ pub(crate) fn enter_child(
     set: Vec<u32>,
     numbers: Vec<u32>,
 ) -> Result<Change, NoMemory>
-    requires few { node.old.placed ≤ most_boxes }
+    requires few { node.old.placed ≤ max_boxes }
     ensures child { OnOk result (plain_placed node.new ≡ record {
       placed = node.old.placed + 1;
       bins = with_answer (lists_of node.old.bins.items) (pred node.old.visited) set.items;

@@ -4,9 +4,9 @@ ghost use Rattle.packing_terms.specs.Packing.{box_count};
 ghost use Rattle.packing_terms.specs.Limits.{IsInternalInstance};
 ghost use Rattle.packing_terms.specs.OuterRefutation.{placements};
 ghost use Rattle.packing_terms.specs.Rank.{ranked};
-ghost use Rattle.tree_terms.specs.Trees.{outcome, told};
+ghost use Rattle.tree_terms.specs.Trees.{outcome, under_budget};
 ghost use Rattle.tree_terms.specs.OuterTrees.{with_answer, bin_node};
-ghost use Rattle.tree_terms.specs.Paths.{node_told, most_budget};
+ghost use Rattle.tree_terms.specs.Paths.{node_view, max_budget};
 ghost use Rattle.work_share.specs.Outcomes.{plain_outcome};
 ghost use Rattle.work_share.specs.Nodes.{plain_node};
 ghost use Rattle.bin_search.specs.Lists.{lists_of};
@@ -18,8 +18,8 @@ use crate::node::{Placed, children, grow_bin};
 use crate::numbers::bin_numbers;
 use crate::walk::{assign, walk};
 use box_instances::{Instance, NoMemory};
-use proof_tree::{Outcome, TokenList};
-use set_search::{Child, MOST_BUDGET, SetSearch, with_box};
+use proof_tree::{CompactTokens, Outcome};
+use set_search::{Child, MAX_BUDGET, SetSearch, with_box};
 use std::alloc::Global;
 use work_share::Node;
 
@@ -139,7 +139,7 @@ pub(crate) fn enter(
     requires fresh { node.visited ≡ 0 }
     requires within { own ≤ cap }
     ensures same { search.new ≡ search.old }
-    ensures outcome { IfOk result (λ r. plain_outcome r ≡ told cap (outcome
+    ensures outcome { IfOk result (λ r. plain_outcome r ≡ under_budget cap (outcome
         (bin_node instance.now search.old.scales most (drop node.placed (ranked instance.now))
         (lists_of node.bins.items) (lists_of node.answers.items) own))) }
 {
@@ -172,12 +172,12 @@ pub(crate) fn explore_step(
         step.placed (lists_of step.bins.items) }
     requires near { step.child < length (placements most (lists_of step.bins.items)
         (slice_index_or (ranked instance.now) step.placed 0)) }
-    ensures { IfOk result (λ r. plain_outcome r ≡ told cap (outcome (child_tree
+    ensures { IfOk result (λ r. plain_outcome r ≡ under_budget cap (outcome (child_tree
         (record { instance = instance.now; bins = most; scales = search.old.scales })
         step.placed (lists_of step.bins.items) step.child))) }
 {
     let b = step.child as usize;
-    let mut tokens = TokenList::new(alloc);
+    let mut tokens = CompactTokens::new(alloc);
     let number = Some(step.child + 1);
     match grow_bin(
         alloc,
@@ -220,8 +220,8 @@ pub(crate) fn tell(
     requires there { placed ≤ length order.now }
     requires few { length bins.now ≤ most }
     requires most { most ≤ box_count instance.now }
-    requires within { own ≤ most_budget }
-    ensures { (scales : Bool) (answers : List (List ℕ)) → plain_node result ≡ node_told
+    requires within { own ≤ max_budget }
+    ensures { (scales : Bool) (answers : List (List ℕ)) → plain_node result ≡ node_view
         (bin_node instance.now scales most (drop placed (ranked instance.now))
         (lists_of bins.now) answers own) }
 {
@@ -255,19 +255,19 @@ pub(crate) fn tell_step(
         step.placed (lists_of step.bins.items) }
     requires near { step.child < length (placements most (lists_of step.bins.items)
         (slice_index_or (ranked instance.now) step.placed 0)) }
-    ensures { IfOk result (λ r. plain_node r ≡ node_told (child_tree
+    ensures { IfOk result (λ r. plain_node r ≡ node_view (child_tree
         (record { instance = instance.now; bins = most; scales = search.old.scales })
         step.placed (lists_of step.bins.items) step.child)) }
 {
     let b = step.child as usize;
-    let mut tokens = TokenList::new(alloc);
+    let mut tokens = CompactTokens::new(alloc);
     match grow_bin(
         alloc,
         search,
         &step.bins,
         b,
         order[step.placed],
-        MOST_BUDGET,
+        MAX_BUDGET,
         None,
         &mut tokens,
     )? {

@@ -3,8 +3,8 @@ ghost use Rattle.std.specs.Prelude.{◌≡◌, ◌+◌, ◌-◌, ◌*◌, ◌/�
 ghost use Rattle.packing_terms.specs.Packing.{dims, box_count};
 ghost use Rattle.packing_terms.specs.Scales.{SidesFit};
 ghost use Rattle.packing_terms.specs.Sums.{sum_below};
-ghost use Rattle.tree_terms.specs.Trees.{outcome, told, node_at};
-ghost use Rattle.tree_terms.specs.Paths.{bins_at, node_told, outcome_at, IsReachable};
+ghost use Rattle.tree_terms.specs.Trees.{outcome, under_budget, node_at};
+ghost use Rattle.tree_terms.specs.Paths.{bins_at, node_view, outcome_at, IsReachable};
 ghost use Rattle.work_share.specs.Outcomes.{plain_outcome};
 ghost use Rattle.work_share.specs.Nodes.{plain_node};
 ghost use Rattle.class_search.specs.Right.{IsYesOrNo};
@@ -18,7 +18,7 @@ use crate::path::{Step, enter, explore_step, last_step, tell, tell_step};
 use crate::root::scales_token;
 use box_instances::{Instance, NoMemory};
 use class_search::are_same_instances;
-use proof_tree::{Outcome, TokenList};
+use proof_tree::{CompactTokens, Outcome};
 use set_search::SetSearch;
 use std::alloc::Global;
 use std::marker::Model;
@@ -93,12 +93,12 @@ impl<'a> BinTree<'a> {
         } }
         ensures same { search.new ≡ search.old }
         ensures outcome { IfOk result
-            (λ r. plain_outcome r ≡ told cap (outcome (shape self.now))) }
+            (λ r. plain_outcome r ≡ under_budget cap (outcome (shape self.now))) }
     {
         // For the proof alone: tells the limits of the instance.
         let _limits = self.instance.len();
         if let Some(token) = scales_token(alloc, self.instance, self.bins, self.scales) {
-            let tokens = TokenList::of_one(alloc, token)?;
+            let tokens = CompactTokens::of_one(alloc, token)?;
             return Ok(Outcome::No { tokens, count: 0 });
         }
         let root = Placed {
@@ -138,7 +138,7 @@ impl<'a> BinTree<'a> {
         requires path { 1 ≤ length path.now }
         requires reached { IsReachable (shape self.now) path.now }
         ensures { IfOk result (λ r. IfSome (node_at (Some (shape self.now)) path.now)
-            (λ node. plain_outcome r ≡ told cap (outcome node))) }
+            (λ node. plain_outcome r ≡ under_budget cap (outcome node))) }
     {
         // For the proof alone: tells the limits of the instance.
         let _limits = self.instance.len();
@@ -161,7 +161,7 @@ impl<'a> BinTree<'a> {
         } }
         requires reached { IsReachable (shape self.now) path.now }
         ensures { IfOk result (λ r. IfSome (node_at (Some (shape self.now)) path.now)
-            (λ node. plain_outcome r ≡ told cap (outcome node))) }
+            (λ node. plain_outcome r ≡ under_budget cap (outcome node))) }
     {
         if path.is_empty() {
             self.explore_with(alloc, search, cap)
@@ -172,7 +172,7 @@ impl<'a> BinTree<'a> {
 
     // What is told of the root.
     fn tell_root(&self, alloc: Global) -> Node
-        ensures { plain_node result ≡ node_told (shape self.now) }
+        ensures { plain_node result ≡ node_view (shape self.now) }
     {
         // For the proof alone: tells the limits of the instance.
         let _limits = self.instance.len();
@@ -199,7 +199,7 @@ impl<'a> BinTree<'a> {
         requires path { 1 ≤ length path.now }
         requires reached { IsReachable (shape self.now) path.now }
         ensures { IfOk result (λ r. IfSome (node_at (Some (shape self.now)) path.now)
-            (λ node. plain_node r ≡ node_told node)) }
+            (λ node. plain_node r ≡ node_view node)) }
     {
         // For the proof alone: tells the limits of the instance.
         let _limits = self.instance.len();
@@ -221,7 +221,7 @@ impl<'a> BinTree<'a> {
         } }
         requires reached { IsReachable (shape self.now) path.now }
         ensures { IfOk result (λ r. IfSome (node_at (Some (shape self.now)) path.now)
-            (λ node. plain_node r ≡ node_told node)) }
+            (λ node. plain_node r ≡ node_view node)) }
     {
         if path.is_empty() {
             Ok(self.tell_root(alloc))
@@ -247,7 +247,7 @@ impl<'a> Tree for BinTree<'a> {
     fn explore(&self, alloc: Global, path: &[u32], cap: u64) -> Result<Outcome, NoMemory>
         requires { IsReachable (shape self.now) path.now }
         ensures outcome { IfOk result (λ r. IfSome (outcome_at (shape self.now) path.now)
-            (λ v. plain_outcome r ≡ told cap v)) }
+            (λ v. plain_outcome r ≡ under_budget cap v)) }
         ensures right { IfOk result (λ r. IsRight self.now
             (bins_at self.now.bins [] (shape self.now) path.now) (plain_outcome r)) }
         ensures decides { path.now ≡ [] → IfOk result (λ r. Decides self.now (plain_outcome r)) }
@@ -267,7 +267,7 @@ impl<'a> Tree for BinTree<'a> {
     fn node(&self, alloc: Global, path: &[u32]) -> Result<Node, NoMemory>
         requires { IsReachable (shape self.now) path.now }
         ensures { IfOk result (λ r. IfSome (node_at (Some (shape self.now)) path.now)
-            (λ node. plain_node r ≡ node_told node)) }
+            (λ node. plain_node r ≡ node_view node)) }
     {
         let mut search = SetSearch::new(alloc, self.instance, self.scales)?;
         self.tell_node(alloc, &mut search, path)

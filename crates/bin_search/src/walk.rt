@@ -5,7 +5,7 @@ ghost use Rattle.packing_terms.specs.Packing.{box_count};
 ghost use Rattle.packing_terms.specs.Limits.{IsInternalInstance};
 ghost use Rattle.packing_terms.specs.Tokens.PlainToken.{Assign};
 ghost use Rattle.packing_terms.specs.Rank.{ranked};
-ghost use Rattle.tree_terms.specs.Trees.{outcome, told};
+ghost use Rattle.tree_terms.specs.Trees.{outcome, under_budget};
 ghost use Rattle.tree_terms.specs.OuterTrees.{bin_node};
 ghost use Rattle.work_share.specs.Outcomes.{plain_outcome};
 ghost use Rattle.proof_tree.specs.Plain.{plain_token};
@@ -15,7 +15,7 @@ ghost use Rattle.bin_search.specs.Nodes.{AreInBins};
 use crate::node::{Change, Placed, children, enter_child, grow_bin, leave_child};
 use crate::numbers::bin_numbers;
 use box_instances::{Instance, NoMemory};
-use proof_tree::{Outcome, Token, TokenList};
+use proof_tree::{CompactTokens, Outcome, Token};
 use set_search::{Child, SetSearch};
 use std::alloc::Global;
 
@@ -53,12 +53,12 @@ pub(crate) fn walk(
     requires fresh { node.visited ≡ 0 }
     requires within { own ≤ cap }
     ensures same { search.new ≡ search.old }
-    ensures outcome { IfOk result (λ r. plain_outcome r ≡ told cap (outcome
+    ensures outcome { IfOk result (λ r. plain_outcome r ≡ under_budget cap (outcome
         (bin_node instance.now search.old.scales most (drop node.placed (ranked instance.now))
         (lists_of node.bins.items) (lists_of node.answers.items) own))) }
 {
     let mut stack: Vec<Change> = Vec::new(alloc);
-    let mut tokens = TokenList::new(alloc);
+    let mut tokens = CompactTokens::new(alloc);
     let mut count = own;
     let mut node = node;
     tokens.push(assign(instance, order, node.placed))?;

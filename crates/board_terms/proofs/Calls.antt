@@ -3,8 +3,8 @@ use Rattle.std.proofs.Common.{◌≡◌, ℕ, ◌<◌, refl, sym, ap, ◌∙◌,
 use Rattle.std.proofs.Common.{if◌then◌else◌}
 use Rattle.std.proofs.lemmas.List.Sums.{fold-append}
 use Rattle.packing_terms.specs.Tokens.{PlainToken}
-use Rattle.tree_terms.specs.Trees.{SearchTree, Verdict, told, count_of, node_at}
-use Rattle.tree_terms.specs.Paths.{Splits, node_told, outcome_at}
+use Rattle.tree_terms.specs.Trees.{SearchTree, Verdict, under_budget, count_of, node_at}
+use Rattle.tree_terms.specs.Paths.{Splits, node_view, outcome_at}
 use Rattle.tree_terms.proofs.Told.{told_past}
 use Rattle.board_terms.specs.Board.{BoardState, PlainEntry, TaskEntry, Out, Done, is_out, entry_path, out_path}
 use Rattle.board_terms.specs.Board.{at_first, with_state, split_into}
@@ -37,7 +37,7 @@ same_at_out f g n p same (e ∷ es) h =
 
 pub divided_is : (tree : SearchTree) (n : ℕ) (path : List ℕ) (node : SearchTree) (token : PlainToken) (own children : ℕ)
     (es : List PlainEntry)
-    → out_path n es ≡ Some path → node_at (Some tree) path ≡ Some node → node_told node ≡ Splits token own children
+    → out_path n es ≡ Some path → node_at (Some tree) path ≡ Some node → node_view node ≡ Splits token own children
     → divided token own children n es ≡ at_first (is_out n) (split_by tree (length es)) es
 divided_is tree n path node token own children es handed there told =
     same_at_out (split_into token own children (length es)) (split_by tree (length es)) n path

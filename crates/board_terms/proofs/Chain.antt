@@ -3,7 +3,7 @@ use Rattle.std.proofs.Common.{◌≡◌, ℕ, zero, suc, ◌+◌, ◌≤◌, ref
 use Rattle.std.proofs.Common.{Option, Some, None, Bool, true, false, if◌then◌else◌}
 use Rattle.packing_terms.specs.Tokens.{PlainToken}
 use Rattle.tree_terms.specs.Trees.{SearchTree, Split, Verdict, No, no_tokens, join, join_from, outcome, node_at}
-use Rattle.tree_terms.specs.Paths.{most_budget, PlainNode, Leaf, Splits, outcome_at, outcome_of}
+use Rattle.tree_terms.specs.Paths.{max_budget, PlainNode, Leaf, Splits, outcome_at, outcome_of}
 use Rattle.tree_terms.proofs.Joins.{join_assoc, join_nothing, nothing_join, join_next}
 use Rattle.tree_terms.proofs.Reached.{told_split, child_there}
 use Rattle.board_terms.specs.Board.{PlainEntry, SplitEntry, TaskEntry, PlainTaskState, Done, at_first, with_state}
@@ -74,7 +74,7 @@ chain_split_as tree fresh number path state None there (Splits token own n) e = 
 chain_split_as tree fresh number path state (Some node) there (Splits token own n) e =
     go ((told_split node token own n).0 e)
   where
-    go : (child : ℕ → SearchTree) × (node ≡ Split token own n child) × (own ≤ most_budget)
+    go : (child : ℕ → SearchTree) × (node ≡ Split token own n child) × (own ≤ max_budget)
         → join (No (token ∷ []) own) (chain tree (children_from path 0 n fresh)) ≡ verdict_or (outcome_at tree path)
     go (child, is, small) =
         let at = there ∙ ap (λ (t : SearchTree). Some t) is in

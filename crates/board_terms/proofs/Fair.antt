@@ -3,8 +3,8 @@ use Rattle.std.proofs.Common.{◌≡◌, ℕ, zero, suc, ◌+◌, ◌<◌, ◌�
 use Rattle.std.proofs.Common.{◌∷◌, ◌++◌, map, Option, Some, None, Bool, true, false, if◌then◌else◌, ltb, option_to_list}
 use Rattle.std.proofs.lemmas.Bool.{ltb-true}
 use Rattle.packing_terms.specs.Tokens.{PlainToken}
-use Rattle.tree_terms.specs.Trees.{SearchTree, Verdict, Decided, Past, told, count_of, node_at}
-use Rattle.tree_terms.specs.Paths.{PlainNode, Leaf, Splits, node_told, outcome_at, IsReachable}
+use Rattle.tree_terms.specs.Trees.{SearchTree, Verdict, Decided, Past, under_budget, count_of, node_at}
+use Rattle.tree_terms.specs.Paths.{PlainNode, Leaf, Splits, node_view, outcome_at, IsReachable}
 use Rattle.tree_terms.proofs.Reached.{reached_next}
 use Rattle.board_terms.specs.Board.{PlainEntry, SplitEntry, TaskEntry, Out, with_state, entry_number, entry_path}
 use Rattle.board_terms.specs.Board.{children_from}
@@ -69,7 +69,7 @@ out_keeps tree budget = record {
 
 -- what is told under the budget, or not, is the node's outcome
 pub told_is_outcome : (budget cap : ℕ) (verdict : Verdict) → budget ≤ cap
-    → IsOutcomeOf budget verdict (told cap verdict)
+    → IsOutcomeOf budget verdict (under_budget cap verdict)
 told_is_outcome budget cap verdict l = go (ltb cap (count_of verdict)) refl
   where
     go : (b : Bool) → ltb cap (count_of verdict) ≡ b → IsOutcomeOf budget verdict (if b then Past else Decided verdict)
@@ -162,7 +162,7 @@ children_inner path (suc more) k number =
 
 children_right : (tree : SearchTree) (budget : ℕ) (path : List ℕ) (node : SearchTree) (token : PlainToken) (own n : ℕ)
     → IsReachable tree path
-    → node_at (Some tree) path ≡ Some node → node_told node ≡ Splits token own n → (more k number : ℕ) → k + more ≤ n
+    → node_at (Some tree) path ≡ Some node → node_view node ≡ Splits token own n → (more k number : ℕ) → k + more ≤ n
     → AreTasksRight tree budget (children_from path k more number)
 children_right tree budget path node token own n r there told zero k number l = tt
 children_right tree budget path node token own n r there told (suc more) k number l = (

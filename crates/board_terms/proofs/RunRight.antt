@@ -2,7 +2,7 @@
 use Rattle.std.proofs.Common.{◌≡◌, ℕ, suc, ◌<◌, ◌≤◌, ◌⊎◌, inl, inr, min, refl, sym, ap, ap₂, ◌∙◌, subst, arith, List}
 use Rattle.std.proofs.Common.{[], ◌∷◌, Bool, true, false, ltb, ◌||◌}
 use Rattle.std.proofs.lemmas.Bool.{true≢false, ltb-true, cases_lt}
-use Rattle.tree_terms.specs.Trees.{SearchTree, Verdict, Yes, No, no_tokens, join, count_of, PlainOutcome, told, outcome}
+use Rattle.tree_terms.specs.Trees.{SearchTree, Verdict, Yes, No, no_tokens, join, count_of, PlainOutcome, under_budget, outcome}
 use Rattle.tree_terms.specs.Paths.{outcome_at}
 use Rattle.tree_terms.proofs.Joins.{count_join_no, count_left}
 use Rattle.tree_terms.proofs.Told.{told_past}
@@ -85,12 +85,12 @@ over_cases false p e = inr e
 
 joins_run : (budget : ℕ) (run : Run) (value : Verdict) → IsRunOf budget run value
     → (run.is_whole ≡ true) ⊎ (ltb budget (count_of run.verdict) ≡ true)
-    → told budget run.verdict ≡ told budget value
+    → under_budget budget run.verdict ≡ under_budget budget value
 joins_run budget run value r over = go (cases_lt budget (count_of run.verdict))
   where
-    go : (budget < count_of run.verdict) ⊎ (count_of run.verdict ≤ budget) → told budget run.verdict ≡ told budget value
+    go : (budget < count_of run.verdict) ⊎ (count_of run.verdict ≤ budget) → under_budget budget run.verdict ≡ under_budget budget value
     go (inl l) = told_past budget run.verdict l ∙ sym (told_past budget value (let a = r.least in omega (arith, a, l)))
-    go (inr l) = ap (told budget) (r.same (whole over) l)
+    go (inr l) = ap (under_budget budget) (r.same (whole over) l)
       where
         whole : (run.is_whole ≡ true) ⊎ (ltb budget (count_of run.verdict) ≡ true) → run.is_whole ≡ true
         whole (inl w) = w
@@ -98,10 +98,10 @@ joins_run budget run value r over = go (cases_lt budget (count_of run.verdict))
 
 pub joins_right : (tree : SearchTree) (budget : ℕ) (board : BoardState) → Keeps tree budget board.entries
     → is_board_over budget board ≡ true
-    → board.is_short ≡ false → board_joined budget board ≡ told budget (outcome tree)
+    → board.is_short ≡ false → board_joined budget board ≡ under_budget budget (outcome tree)
 joins_right tree budget board k over long =
     let run = run_of budget board.entries in
     joins_run budget run (chain tree board.entries) (run_is_right tree budget board.entries k.right)
     (over_cases run.is_whole (ltb budget (count_of run.verdict))
     (subst (λ b. (b || run.is_whole || ltb budget (count_of run.verdict)) ≡ true) long over))
-    ∙ ap (told budget) k.whole
+    ∙ ap (under_budget budget) k.whole

@@ -2,8 +2,8 @@
 -- tree.
 use Rattle.std.specs.Prelude.{ℕ, List, [], ◌∷◌, ◌++◌, length, Option, Some, None, Bool, true, false, fold}
 use Rattle.std.specs.Prelude.{option_to_list}
-use Rattle.tree_terms.specs.Trees.{SearchTree, Verdict, PlainOutcome, Decided, told, node_at}
-use Rattle.tree_terms.specs.Paths.{PlainNode, Leaf, Splits, node_told, outcome_at}
+use Rattle.tree_terms.specs.Trees.{SearchTree, Verdict, PlainOutcome, Decided, under_budget, node_at}
+use Rattle.tree_terms.specs.Paths.{PlainNode, Leaf, Splits, node_view, outcome_at}
 use Rattle.board_terms.specs.Board.{BoardState, board_start, PlainEntry, SplitEntry, TaskEntry, is_out, out_path}
 use Rattle.board_terms.specs.Board.{at_first, with_state, Done, split_into}
 use Rattle.board_terms.specs.Steps.{handed_out, with_entries}
@@ -13,7 +13,7 @@ use Rattle.board_terms.specs.declared.Event.TheVariants as stored
 -- the node at a path as it is told; where there is none, a leaf
 abbrev pub told_there : Option SearchTree → PlainNode
 told_there None = Leaf
-told_there (Some node) = node_told node
+told_there (Some node) = node_view node
 
 -- an entry as a node that is told this way leaves it
 abbrev pub split_as : PlainNode → ℕ → PlainEntry → List PlainEntry
@@ -29,7 +29,7 @@ split_by tree fresh (TaskEntry number path state) =
 -- the outcome that is read from the tree: as told under the budget where past was given, and else
 -- whole
 abbrev pub outcome_read : ℕ → Bool → Verdict → PlainOutcome
-outcome_read budget true verdict = told budget verdict
+outcome_read budget true verdict = under_budget budget verdict
 outcome_read budget false verdict = Decided verdict
 
 -- an entry, done with the outcome that is there

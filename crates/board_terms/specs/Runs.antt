@@ -1,6 +1,6 @@
 -- The leftmost finished run of a board, when a board is over, and what its pieces join to.
 use Rattle.std.specs.Prelude.{ℕ, ◌+◌, List, [], ◌∷◌, Bool, true, false, ◌||◌, nat_lt}
-use Rattle.tree_terms.specs.Trees.{Verdict, Yes, No, no_tokens, join, count_of, PlainOutcome, Decided, Past, told}
+use Rattle.tree_terms.specs.Trees.{Verdict, Yes, No, no_tokens, join, count_of, PlainOutcome, Decided, Past, under_budget}
 use Rattle.board_terms.specs.Board.{PlainEntry, SplitEntry, TaskEntry, PlainTaskState, Waits, Out, Done, BoardState}
 
 -- What the run joins to, and whether it is whole: it reaches the last entry, or ends with a yes.
@@ -43,4 +43,4 @@ is_board_over budget board = board.is_short || (run_of budget board.entries).is_
 -- What a board that is over and not short joins to: the run's verdict, or past where the run's
 -- count exceeds the budget. A whole run without a yes has the tokens of all entries in order.
 abbrev pub board_joined : ℕ → BoardState → PlainOutcome
-board_joined budget board = told budget (run_of budget board.entries).verdict
+board_joined budget board = under_budget budget (run_of budget board.entries).verdict

@@ -2,7 +2,7 @@
 use Rattle.std.specs.Prelude.{ℕ, ◌≡◌, ◌<◌, List, [], ◌∷◌, ◌++◌, length, Some, None, Bool, true, false}
 use Rattle.packing_terms.specs.Tokens.{PlainToken}
 use Rattle.tree_terms.specs.Trees.{SearchTree, Verdict, count_of, PlainOutcome, Decided, Past, node_at}
-use Rattle.tree_terms.specs.Paths.{node_told, Splits, outcome_at}
+use Rattle.tree_terms.specs.Paths.{node_view, Splits, outcome_at}
 use Rattle.board_terms.specs.Board.{BoardState, PlainTask, PlainEntry, waits_as, is_out, first_waiting, out_path}
 use Rattle.board_terms.specs.Board.{at_first, with_state, Out, Done, split_into}
 use Rattle.board_terms.specs.Runs.{is_board_over}
@@ -57,7 +57,7 @@ pub record Divides (tree : SearchTree) (old : BoardState) (number : ℕ) (new : 
   pub token : PlainToken
   pub own : ℕ
   pub children : ℕ
-  pub told : node_told node ≡ Splits token own children
+  pub told : node_view node ≡ Splits token own children
   pub after : new ≡ with_entries old (divided token own children number old.entries)
 
 -- The task of this number is out, and is done with the tree's outcome at its path, or with past

@@ -1,7 +1,7 @@
 //! The laws over work boards. Each is proved of all trees, budgets and lists of events, and is read
 //! in its contract.
 ghost use Rattle.std.specs.Prelude.{◌≡◌, ℕ, List, map, length, Some, None, true, false};
-ghost use Rattle.tree_terms.specs.Trees.{SearchTree, Verdict, PlainOutcome, Past, outcome, told};
+ghost use Rattle.tree_terms.specs.Trees.{SearchTree, Verdict, PlainOutcome, Past, outcome, under_budget};
 ghost use Rattle.board_terms.specs.declared.Event.{Event as PlainEvent};
 ghost use Rattle.board_terms.specs.Board.{BoardState, board_start, entry_number, first_waiting};
 ghost use Rattle.board_terms.specs.Runs.{is_board_over, board_joined};
@@ -26,7 +26,7 @@ pub fn any_order_gives_one_outcome()
     ensures joined { (tree : SearchTree) (budget : ℕ) (calls : List Call) (board : BoardState)
         → AreSteps tree budget board_start calls board
         → is_board_over budget board ≡ true → board.is_short ≡ false
-        → board_joined budget board ≡ told budget (outcome tree) }
+        → board_joined budget board ≡ under_budget budget (outcome tree) }
 {}
 
 /// A step leaves what its event makes of the board, so a list of steps leaves what its events
@@ -63,14 +63,14 @@ pub fn histories_keep_a_board()
     ensures joined { (tree : SearchTree) (budget : ℕ) (events : List PlainEvent)
         → is_board_over budget (replay tree budget events) ≡ true
         → (replay tree budget events).is_short ≡ false
-        → board_joined budget (replay tree budget events) ≡ told budget (outcome tree) }
+        → board_joined budget (replay tree budget events) ≡ under_budget budget (outcome tree) }
 {}
 
 /// What is told under the budget is an outcome that a task may be finished with, and so is what is
 /// told under any other cap and isn't past.
 pub fn pieces_are_outcomes()
     ensures budget { (budget : ℕ) (verdict : Verdict)
-        → IsOutcomeOf budget verdict (told budget verdict) }
-    ensures cap { (budget cap : ℕ) (verdict : Verdict) → (¬ (told cap verdict ≡ Past))
-        → IsOutcomeOf budget verdict (told cap verdict) }
+        → IsOutcomeOf budget verdict (under_budget budget verdict) }
+    ensures cap { (budget cap : ℕ) (verdict : Verdict) → (¬ (under_budget cap verdict ≡ Past))
+        → IsOutcomeOf budget verdict (under_budget cap verdict) }
 {}

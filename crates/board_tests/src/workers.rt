@@ -119,7 +119,7 @@ fn a_refutation_past_the_first_cap_is_shared(rt: HostRuntime) -> Result<(), Fail
 }
 
 #[test]
-fn a_late_yes_is_shared(rt: HostRuntime) -> Result<(), Fail> {
+fn late_yes_is_found_by_several_workers(rt: HostRuntime) -> Result<(), Fail> {
     assert!(rt; is_shared(&rt, rt.alloc(), &LATE)?);
     Ok(())
 }

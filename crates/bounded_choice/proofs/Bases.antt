@@ -6,7 +6,7 @@ use Rattle.packing_terms.specs.Packing.{PlainInstance}
 use Rattle.packing_terms.specs.Limits.{IsInternalInstance}
 use Rattle.packing_terms.specs.Tokens.{PlainToken}
 use Rattle.text_terms.specs.declared.settings.Settings.{Settings}
-use Rattle.document_terms.specs.Claims.{most_worth}
+use Rattle.document_terms.specs.Claims.{max_worth}
 use Rattle.tree_terms.specs.Levels.{PlainReached, value_run, first_values}
 use Rattle.tree_terms.proofs.FirstLevels.{value_above, value_zero}
 use Rattle.tree_terms.proofs.SpentRuns.{value_end}
@@ -19,7 +19,7 @@ use Rattle.bounded_tokens.specs.Plain.{plain_bounded}
 use Rattle.bin_knapsack.specs.declared.choice.Choice.{Choice}
 use Rattle.bin_knapsack.specs.declared.choice.Choice.TheVariants.{Greatest, Between}
 use Rattle.bin_knapsack.specs.Choices.{IsAnswer, IsTrueChoice, IsSpentExactly}
-use Rattle.proposed_answers.specs.Values.{IsLimitedChoice, IsPastBeside}
+use Rattle.proposed_answers.specs.Values.{IsLimitedChoice, AreNeighboursPastBudget}
 use Rattle.proposed_answers.proofs.Tops.{top_small}
 use Rattle.bounded_choice.specs.declared.levels.ValueLevels.{ValueLevels}
 use Rattle.bounded_choice.specs.Levels.{levels_told, refuted_by, IsWithin, IsOpenWithout}
@@ -52,7 +52,7 @@ parameters_next tokens k t l is h one =
 -- ---- the levels that an answer tells
 
 pub told_levels : (instance : PlainInstance) (choice : Choice) → IsTrueChoice instance choice
-    → refuted_by choice ≤ most_worth → IsBoundedAnswer instance (levels_told choice)
+    → refuted_by choice ≤ max_worth → IsBoundedAnswer instance (levels_told choice)
 told_levels instance (Greatest value numbers tokens) is small = record {
   rising = omega arith;
   most = small;
@@ -83,7 +83,7 @@ first_levels instance limits =
 
 -- what the run refutes is at most one more than all boxes are worth
 pub run_small : (instance : PlainInstance) (budget : ℕ) (scales : Bool) (choice : Choice) → IsInternalInstance instance
-    → IsAnswer instance budget scales choice → refuted_by choice ≤ most_worth
+    → IsAnswer instance budget scales choice → refuted_by choice ≤ max_worth
 run_small instance budget scales (Greatest value numbers tokens) limits e =
     let high = (value_end instance budget scales).high in
     let small = top_small instance limits in
@@ -96,7 +96,7 @@ run_small instance budget scales (Between placed numbers refuted tokens) limits 
     omega (arith, high, small, same)
 
 pub limited_small : (instance : PlainInstance) (choice : Choice) → IsInternalInstance instance
-    → IsLimitedChoice instance choice → refuted_by choice ≤ most_worth
+    → IsLimitedChoice instance choice → refuted_by choice ≤ max_worth
 limited_small instance (Greatest value numbers tokens) limits limited =
     let small = top_small instance limits in omega (arith, small, limited)
 limited_small instance (Between placed numbers refuted tokens) limits limited =
@@ -122,7 +122,7 @@ run_open instance settings (Between placed numbers refuted tokens) e spent = λ 
     record { spent = spent; lower = omega (arith, low); upper = omega (arith, high) }
 
 proposed_open : (instance : PlainInstance) (settings : Settings) (choice : Choice)
-    → IsPastBeside instance settings.budget settings.scales choice
+    → AreNeighboursPastBudget instance settings.budget settings.scales choice
     → IsToldOpen true instance settings (levels_told choice)
 proposed_open instance settings (Greatest value numbers tokens) past = λ gap. absurd (omega (arith, gap))
 proposed_open instance settings (Between placed numbers refuted tokens) past = λ gap. record {
@@ -135,7 +135,7 @@ proposed_open instance settings (Between placed numbers refuted tokens) past = �
 }
 
 pub base_levels : (instance : PlainInstance) (choice : Choice) (levels : ValueLevels)
-    → plain_levels levels ≡ levels_told choice → IsTrueChoice instance choice → refuted_by choice ≤ most_worth
+    → plain_levels levels ≡ levels_told choice → IsTrueChoice instance choice → refuted_by choice ≤ max_worth
     → IsBoundedAnswer instance (plain_levels levels)
 base_levels instance choice levels told is small =
     subst (λ (a : BoundedAnswer). IsBoundedAnswer instance a) (sym told) (told_levels instance choice is small)
@@ -148,7 +148,7 @@ module _ (instance : PlainInstance) (settings : Settings) (choice : Choice) (lev
       subst (λ (a : BoundedAnswer). IsToldOpen false instance settings a) (sym told)
       (run_open instance settings choice e spent)
 
-  pub proposed_base_open : IsPastBeside instance settings.budget settings.scales choice
+  pub proposed_base_open : AreNeighboursPastBudget instance settings.budget settings.scales choice
       → IsOpenOnlyPast true instance settings levels
   proposed_base_open past =
       subst (λ (a : BoundedAnswer). IsToldOpen true instance settings a) (sym told)

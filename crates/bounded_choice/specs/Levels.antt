@@ -4,7 +4,7 @@ use Rattle.packing_terms.specs.Packing.{PlainInstance}
 use Rattle.text_terms.specs.declared.settings.Settings.{Settings}
 use Rattle.tree_terms.specs.Levels.{PlainReached, value_run}
 use Rattle.tree_terms.specs.OuterSearch.{AreTakenNumbers}
-use Rattle.tree_terms.specs.RunEnds.{HasLargeWorth}
+use Rattle.tree_terms.specs.RunEnds.{HasValuePastBudget}
 use Rattle.bounded_terms.specs.BoundedRefutation.{BoundedToken as PlainBounded, Plain as PlainPlain, IsBoundedRefutation}
 use Rattle.bounded_tokens.specs.declared.token.BoundedToken.{BoundedToken}
 use Rattle.bounded_tokens.specs.Plain.{plain_bounded_tokens}
@@ -90,7 +90,7 @@ reached_levels r = record {
 -- The run of choice trees without priced leaves ends open: some value that it decides has a tree with more
 -- branchings than the budget. The two values lie within its levels.
 pub record IsOpenRun (instance : PlainInstance) (settings : Settings) (placed refuted : ℕ) : Type 0 where
-  pub spent : HasLargeWorth instance settings.budget settings.scales
+  pub spent : HasValuePastBudget instance settings.budget settings.scales
   pub lower : (value_run instance settings.budget settings.scales).placed ≤ placed
   pub upper : refuted ≤ (value_run instance settings.budget settings.scales).refuted
 

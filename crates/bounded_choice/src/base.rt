@@ -1,6 +1,6 @@
 //! The levels of the run without priced leaves, which the search begins with.
 ghost use Rattle.std.specs.Prelude.{◌≡◌, ◌≤◌, false, true, IfOk};
-ghost use Rattle.document_terms.specs.Claims.{most_worth};
+ghost use Rattle.document_terms.specs.Claims.{max_worth};
 ghost use Rattle.bounded_choice.specs.Levels.{plain_levels, levels_told, refuted_by, AreLevels, IsOpenOnlyPast};
 
 use crate::levels::{ValueLevels, ValueProof};
@@ -14,7 +14,7 @@ use work_share::{Gate, Settings};
 
 // The levels that an answer tells.
 fn levels_of(choice: Choice) -> ValueLevels
-    requires { refuted_by choice ≤ most_worth }
+    requires { refuted_by choice ≤ max_worth }
     ensures { plain_levels result ≡ levels_told choice }
 {
     match choice {

@@ -5,12 +5,12 @@ ghost use Rattle.bounded_choice.specs.Levels.{AreLevels, IsWithin, IsPlacedValue
 
 use crate::placed::PlacedValue;
 use bounded_tokens::BoundedToken;
-use proof_tree::TokenList;
+use proof_tree::CompactTokens;
 
 /// The refutation of a value: the tokens of a choice tree, or of one whose leaves may be priced.
 #[derive(Drop)]
 pub enum ValueProof {
-    Plain(TokenList),
+    Plain(CompactTokens),
     Priced(Vec<BoundedToken>),
 }
 

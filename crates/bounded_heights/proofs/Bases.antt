@@ -2,7 +2,7 @@
 use Rattle.std.proofs.Common.{◌≡◌, ℕ, suc, ◌-◌, ◌<◌, ◌≤◌, sym, ap, subst, arith, Bool, true, false, List, [], ◌∷◌}
 use Rattle.std.proofs.Common.{Result, Ok, Err, IfOk}
 use Rattle.packing_terms.specs.Packing.{PlainInstance, IsPacking}
-use Rattle.packing_terms.specs.Limits.{IsInternalInstance, most_height}
+use Rattle.packing_terms.specs.Limits.{IsInternalInstance, max_height}
 use Rattle.packing_terms.specs.Goals.{with_last_side, HasTooWideBox}
 use Rattle.packing_terms.specs.Tokens.{PlainToken}
 use Rattle.packing_terms.specs.Refutation.{Refutes}
@@ -15,7 +15,7 @@ use Rattle.strip_solver.specs.declared.strip.Strip.{Strip}
 use Rattle.strip_solver.specs.declared.strip.Strip.TheVariants.{Least, Between, NoneFits as NoHeightFits}
 use Rattle.strip_solver.specs.Strips as strips
 use Rattle.strip_solver.specs.Strips.{IsTrueStrip, IsSpentExactly}
-use Rattle.proposed_answers.specs.Heights.{IsNamedStrip, IsLimitedStrip, IsPastBeside}
+use Rattle.proposed_answers.specs.Heights.{IsNamedStrip, IsLimitedStrip, AreNeighboursPastBudget}
 use Rattle.proposed_answers.proofs.Strips.{run_named, run_limited}
 use Rattle.bounded_heights.specs.declared.levels.HeightLevels.{HeightLevels}
 use Rattle.bounded_heights.specs.declared.levels.BoundedStrip.{BoundedStrip}
@@ -30,7 +30,7 @@ joining_plain [] = tt
 joining_plain (t ∷ ts) = joining_plain ts
 
 told_are_heights : (instance : PlainInstance) (refuted placed : ℕ) (places : List ℕ) (tokens : List PlainToken)
-    → refuted < placed → placed ≤ most_height → ¬ HasTooWideBox instance
+    → refuted < placed → placed ≤ max_height → ¬ HasTooWideBox instance
     → IsPacking (with_last_side instance placed) places → Refutes (with_last_side instance refuted) [] tokens
     → AreBoundedHeights instance (told_heights refuted tokens placed places)
 told_are_heights instance refuted placed places tokens rising most narrow packed refutes = record {
@@ -67,7 +67,7 @@ run_open instance settings (Between refuted tokens height places) e spent = λ g
 run_open instance settings (NoHeightFits v i) e spent = tt
 
 proposed_open : (instance : PlainInstance) (settings : Settings) (s : Strip)
-    → IsPastBeside instance settings.budget settings.scales s → IsOpenOnlyPast true instance settings (strip_told s)
+    → AreNeighboursPastBudget instance settings.budget settings.scales s → IsOpenOnlyPast true instance settings (strip_told s)
 proposed_open instance settings (Least height places tokens) past = λ gap. absurd (omega (arith, gap))
 proposed_open instance settings (Between refuted tokens height places) past = λ gap. record {
   low = refuted;
@@ -100,7 +100,7 @@ module _ (instance : PlainInstance) (s : Strip) (strip : BoundedStrip) (told : p
   plain_base_open settings e spent =
       subst (λ (a : PlainStrip). IsOpenOnlyPast false instance settings a) (sym told) (run_open instance settings s e spent)
 
-  pub proposed_base_open : (settings : Settings) → IsPastBeside instance settings.budget settings.scales s
+  pub proposed_base_open : (settings : Settings) → AreNeighboursPastBudget instance settings.budget settings.scales s
       → IsOpenOnlyPast true instance settings (plain_strip strip)
   proposed_base_open settings past =
       subst (λ (a : PlainStrip). IsOpenOnlyPast true instance settings a) (sym told) (proposed_open instance settings s past)

@@ -5,7 +5,7 @@ use Rattle.packing_terms.specs.Goals.{with_last_side}
 use Rattle.packing_terms.specs.Tokens.{PlainToken}
 use Rattle.text_terms.specs.declared.settings.Settings.{Settings}
 use Rattle.tree_terms.specs.Levels.{height_run}
-use Rattle.tree_terms.specs.RunEnds.{HasLargeHeight}
+use Rattle.tree_terms.specs.RunEnds.{HasHeightPastBudget}
 use Rattle.family_terms.specs.FamilyRefutation.{FamilyToken as PlainFamilyToken, Plain as PlainPlain, Free, RefutesFamilies}
 use Rattle.family_tokens.specs.declared.token.FamilyToken.{FamilyToken}
 use Rattle.family_tokens.specs.Plain.{plain_family_tokens}
@@ -76,7 +76,7 @@ strip_told (NoHeightFits v i) = PlainNoneFits v i
 -- The run of class trees ends open: some height that it decides has a tree with more branchings than the
 -- budget. The two heights lie within its heights.
 pub record IsOpenRun (instance : PlainInstance) (settings : Settings) (refuted placed : ℕ) : Type 0 where
-  pub spent : HasLargeHeight instance settings.budget settings.scales
+  pub spent : HasHeightPastBudget instance settings.budget settings.scales
   pub lower : (height_run instance settings.budget settings.scales).refuted ≤ refuted
   pub upper : placed ≤ (height_run instance settings.budget settings.scales).placed
 

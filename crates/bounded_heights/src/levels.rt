@@ -4,12 +4,12 @@ ghost use Rattle.packing_terms.specs.Packing.{PlainInstance};
 ghost use Rattle.bounded_heights.specs.Heights.{AreLevels, IsWithin, AreRefutedBy};
 
 use family_tokens::FamilyToken;
-use proof_tree::TokenList;
+use proof_tree::CompactTokens;
 
 /// The refutation of a height: the tokens of a class tree, or of one with families.
 #[derive(Drop)]
 pub enum HeightProof {
-    Plain(TokenList),
+    Plain(CompactTokens),
     Families(Vec<FamilyToken>),
 }
 

@@ -1,6 +1,6 @@
 //! The test of a proposed refutation with families.
 ghost use Rattle.std.specs.Prelude.{◌≡◌, ◌≤◌, ◌∷◌, [], true, length, IfOk, IfSome, MatchBool};
-ghost use Rattle.packing_terms.specs.Limits.{most_height};
+ghost use Rattle.packing_terms.specs.Limits.{max_height};
 ghost use Rattle.family_terms.specs.FamilyRefutation.{Free, RefutesFamilies};
 ghost use Rattle.family_terms.specs.FamilyLines.{most_joining};
 ghost use Rattle.family_tokens.specs.Plain.{plain_family, plain_family_tokens};
@@ -66,7 +66,7 @@ pub(crate) fn refuted_at(
     instance: &Instance,
     height: u32,
 ) -> Result<Option<Vec<FamilyToken>>, NoMemory>
-    requires { height ≤ most_height }
+    requires { height ≤ max_height }
     ensures { IfOk result
         (λ found. IfSome found (λ tokens. AreRefutedBy instance.now height tokens.items)) }
 {

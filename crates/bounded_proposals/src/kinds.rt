@@ -1,7 +1,7 @@
 //! Boxes of the same sides.
 
 use box_instances::{Instance, NoMemory};
-use loose_lists::{at, pushed};
+use lenient_lists::{at, pushed};
 use std::alloc::Global;
 
 // Whether two boxes have the same sides.

@@ -4,7 +4,7 @@
 //! in a run on 30 boxes of 12 kinds 9 are different.
 
 use box_instances::NoMemory;
-use loose_lists::pushed;
+use lenient_lists::pushed;
 use proof_tree::{Token, copy_token};
 use std::alloc::Global;
 
@@ -40,7 +40,7 @@ impl KnownSet {
 
 /// Sets by the kinds of their boxes.
 #[derive(Drop)]
-pub(crate) struct SetMemory {
+pub(crate) struct SetCache {
     sets: Vec<KnownSet>,
     kinds: Vec<u32>,
     tokens: Vec<Token>,
@@ -67,9 +67,9 @@ fn stands_at(list: &[u32], first: usize, row: &[u32]) -> bool {
     true
 }
 
-impl SetMemory {
-    pub(crate) fn new(alloc: Global) -> SetMemory {
-        SetMemory {
+impl SetCache {
+    pub(crate) fn new(alloc: Global) -> SetCache {
+        SetCache {
             sets: Vec::new(alloc),
             kinds: Vec::new(alloc),
             tokens: Vec::new(alloc),

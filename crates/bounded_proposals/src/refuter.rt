@@ -1,7 +1,7 @@
 //! Proposed refutations of values: the search, with its sets decided by proposals.
 
 use crate::kinds::{kinds, kinds_of};
-use crate::memory::SetMemory;
+use crate::memory::SetCache;
 use crate::patience::Patience;
 use crate::sets::set_instance;
 use bounded_search::{BoundedSearch, Pause, TreeLimits};
@@ -72,7 +72,7 @@ fn split_steps(boxes: usize) -> u64 {
 pub struct ValueRefuter {
     search: BoundedSearch,
     kinds: Vec<u32>,
-    memory: SetMemory,
+    memory: SetCache,
     patience: Patience,
     // The most steps for the goal.
     steps: u64,
@@ -84,7 +84,7 @@ impl ValueRefuter {
         Ok(ValueRefuter {
             search: BoundedSearch::new(alloc, instance)?,
             kinds: kinds(alloc, instance)?,
-            memory: SetMemory::new(alloc),
+            memory: SetCache::new(alloc),
             patience: Patience::new(),
             steps: 0,
         })

@@ -3,7 +3,7 @@
 
 use crate::slots::bit;
 use box_instances::{Instance, NoMemory};
-use loose_lists::pushed;
+use lenient_lists::pushed;
 use std::alloc::Global;
 
 // Whether no side of box `u` is longer than that of box `v`, and its value no less.

@@ -3,7 +3,7 @@
 use crate::slots::{block_of, entry};
 use box_instances::{Instance, NoMemory};
 use conservative_scales::{ScaleFn, image, legal, whole};
-use loose_lists::pushed;
+use lenient_lists::pushed;
 use std::alloc::Global;
 
 /// Scale functions of one dimension with their wholes and what they make of each box.

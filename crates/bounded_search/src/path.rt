@@ -4,7 +4,7 @@ use crate::boxes::decision_order;
 use crate::fill::OpenNode;
 use crate::slots::{bit, entry};
 use box_instances::{Instance, NoMemory};
-use loose_lists::pushed;
+use lenient_lists::pushed;
 use std::alloc::Global;
 
 // The most boxes of an instance.

@@ -1,7 +1,7 @@
 //! The tuples that closed nodes last.
 
 use box_instances::NoMemory;
-use loose_lists::{at, pushed, put};
+use lenient_lists::{at, pushed, put};
 use std::alloc::Global;
 
 // The most tuples. Most nodes are closed by one of the last few; a node that none of them closes

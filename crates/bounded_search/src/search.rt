@@ -19,7 +19,7 @@ use crate::recent::Recent;
 use crate::slots::{bit, entry};
 use bounded_tokens::BoundedToken;
 use box_instances::{Instance, NoMemory};
-use loose_lists::pushed;
+use lenient_lists::pushed;
 use proof_tree::Token;
 use std::alloc::Global;
 use std::mem::replace;

@@ -1,7 +1,7 @@
 //! Copies of instances, whole or in part.
 ghost use Rattle.std.specs.Prelude.{◌≡◌, ◌≤◌, ◌-◌, map, length, slice_set, IfOk};
 ghost use Rattle.packing_terms.specs.Goals.{subset, with_last_side, IsBoxSet};
-ghost use Rattle.packing_terms.specs.Limits.{most_height};
+ghost use Rattle.packing_terms.specs.Limits.{max_height};
 ghost use Rattle.box_instances.specs.Plain.{plain_box};
 
 use crate::{BoxItem, Instance, NoMemory, Sides};
@@ -86,7 +86,7 @@ impl Instance {
     /// The instance with another written last container side, from 0 to 128,000,000, whatever its
     /// kerf.
     pub fn with_last_side(&self, alloc: Global, height: u32) -> Result<Instance, NoMemory>
-        requires { height ≤ most_height }
+        requires { height ≤ max_height }
         ensures { IfOk result (λ i. i ≡ with_last_side self.now height) }
     {
         let container = raised(alloc, self.container.as_slice(), height)?;

@@ -1,7 +1,7 @@
 //! Boxes and instances.
 ghost use Rattle.std.specs.Prelude.{map, replicate, slice_index, IfErr, slice_index_or, ◌≡◌, ◌<◌, ◌≤◌, ◌^◌, ℕ, length, IfOk, OnOk, MatchOption};
 ghost use Rattle.packing_terms.specs.Packing.{dims, box_count, kerf, written_container, written_side, container_side, side, value, no_box};
-ghost use Rattle.packing_terms.specs.Limits.{most_boxes, AreSides, IsBox, IsInstance, IsInternalInstance};
+ghost use Rattle.packing_terms.specs.Limits.{max_boxes, AreSides, IsBox, IsInstance, IsInternalInstance};
 ghost use Rattle.box_instances.specs.Plain.{plain_box, plain_instance, without_kerf};
 ghost use Rattle.box_instances.specs.Faults.{AreKerfsOf, IsFirstFaultySide, IsFirstKerfOutside, IsFirstFault, IsFirstBoxFault};
 
@@ -22,16 +22,16 @@ pub struct BoxItem {
 }
 
 /// The greatest number of boxes.
-pub const MOST_BOXES: usize = 128;
+pub const MAX_BOXES: usize = 128;
 
 /// The greatest written side with its kerf.
-pub const MOST_SIDE: u32 = 1_000_000;
+pub const MAX_SIDE: u32 = 1_000_000;
 
 /// The greatest kerf.
-pub const MOST_KERF: u32 = 100_000;
+pub const MAX_KERF: u32 = 100_000;
 
 /// The greatest value of a box.
-pub const MOST_VALUE: u32 = 1_000_000_000;
+pub const MAX_VALUE: u32 = 1_000_000_000;
 
 /// A container and the boxes that are to be packed in it without rotation, with a gap of at least
 /// the kerf between boxes that are apart.
@@ -50,7 +50,7 @@ pub struct Instance {
     pub(crate) kerf: Sides,
     pub(crate) boxes: Vec<BoxItem>,
     pub(crate) limits: [u32; 4],
-    pub(crate) working: [[u32; 4]; MOST_BOXES],
+    pub(crate) working: [[u32; 4]; MAX_BOXES],
     pub(crate) longest: [u32; 4],
 }
 
@@ -82,7 +82,7 @@ fn first_outside(kerf: &[u32], sides: &[u32]) -> Option<u32>
         (IsFirstFaultySide kerf.now sides.now) }
 {
     for i in 0..sides.len() {
-        if sides[i] < 1 || sides[i] as u64 + kerf_at(kerf, i) as u64 > MOST_SIDE as u64 {
+        if sides[i] < 1 || sides[i] as u64 + kerf_at(kerf, i) as u64 > MAX_SIDE as u64 {
             return Some(i as u32);
         }
     }
@@ -97,7 +97,7 @@ fn first_kerf_outside(container: &[u32], kerf: &[u32]) -> Option<u32>
         (IsFirstKerfOutside container.now kerf.now) }
 {
     for i in 0..kerf.len() {
-        if kerf[i] > MOST_KERF || container[i] as u64 + kerf[i] as u64 > MOST_SIDE as u64 {
+        if kerf[i] > MAX_KERF || container[i] as u64 + kerf[i] as u64 > MAX_SIDE as u64 {
             return Some(i as u32);
         }
     }
@@ -106,7 +106,7 @@ fn first_kerf_outside(container: &[u32], kerf: &[u32]) -> Option<u32>
 
 // What is wrong with the first box that has a fault.
 fn first_box_fault(dims: usize, kerf: &[u32], boxes: &[BoxItem]) -> Option<InstanceFault>
-    requires few { length boxes.now ≤ most_boxes }
+    requires few { length boxes.now ≤ max_boxes }
     requires dims { dims ≤ 4 }
     ensures { MatchOption result
         ((v : ℕ) → v < length boxes.now
@@ -122,7 +122,7 @@ fn first_box_fault(dims: usize, kerf: &[u32], boxes: &[BoxItem]) -> Option<Insta
         if let Some(dim) = first_outside(kerf, item.sides.as_slice()) {
             return Some(InstanceFault::SideRange { box_no, dim });
         }
-        if item.value > MOST_VALUE as u64 {
+        if item.value > MAX_VALUE as u64 {
             return Some(InstanceFault::ValueRange { box_no });
         }
     }
@@ -205,7 +205,7 @@ impl Instance {
         if boxes.is_empty() {
             return Err(InstanceFault::NoBoxes);
         }
-        if boxes.len() > MOST_BOXES {
+        if boxes.len() > MAX_BOXES {
             return Err(InstanceFault::TooManyBoxes);
         }
         if let Some(fault) = first_box_fault(container.len(), kerf.as_slice(), boxes.as_slice()) {

@@ -11,6 +11,6 @@ mod sides;
 mod working;
 
 pub use fault::{InstanceFault, NoMemory};
-pub use instance::{BoxItem, Instance, MOST_BOXES, MOST_KERF, MOST_SIDE, MOST_VALUE, Sides};
+pub use instance::{BoxItem, Instance, MAX_BOXES, MAX_KERF, MAX_SIDE, MAX_VALUE, Sides};
 pub use making::make;
 pub use sets::BoxSet;

@@ -1,10 +1,10 @@
 //! Working sides, each in its place, so that they are read at once.
 ghost use Rattle.std.specs.Prelude.{◌≡◌, ◌<◌, ◌≤◌, ◌+◌, ◌^◌, ℕ, [], map, length, slice_index, slice_index_or};
 ghost use Rattle.packing_terms.specs.Packing.{no_box};
-ghost use Rattle.packing_terms.specs.Limits.{most_boxes, IsBox};
+ghost use Rattle.packing_terms.specs.Limits.{max_boxes, IsBox};
 ghost use Rattle.box_instances.specs.Plain.{plain_box};
 
-use crate::{BoxItem, MOST_BOXES};
+use crate::{BoxItem, MAX_BOXES};
 
 /// The working sides of a box or of a container: the written ones with the kerfs.
 pub(crate) fn working_row(kerf: &[u32], sides: &[u32]) -> [u32; 4]
@@ -23,18 +23,18 @@ pub(crate) fn working_row(kerf: &[u32], sides: &[u32]) -> [u32; 4]
 }
 
 /// The same of each box.
-pub(crate) fn working_sides(kerf: &[u32], boxes: &[BoxItem]) -> [[u32; 4]; MOST_BOXES]
+pub(crate) fn working_sides(kerf: &[u32], boxes: &[BoxItem]) -> [[u32; 4]; MAX_BOXES]
     requires few { length kerf.now ≤ 4 }
-    requires count { length boxes.now ≤ most_boxes }
+    requires count { length boxes.now ≤ max_boxes }
     requires each { (v : ℕ) → v < length boxes.now → IsBox (length kerf.now) kerf.now
         (slice_index_or (map plain_box boxes.now) v no_box) }
-    ensures count { length result ≡ most_boxes }
+    ensures count { length result ≡ max_boxes }
     ensures each { (v i : ℕ) → v < length boxes.now → i < length kerf.now
         → slice_index (slice_index_or result v []) i
         ≡ slice_index (slice_index_or (map plain_box boxes.now) v no_box).sides i
         + slice_index kerf.now i }
 {
-    let mut rows = [[0; 4]; MOST_BOXES];
+    let mut rows = [[0; 4]; MAX_BOXES];
     for v in 0..boxes.len() {
         rows[v] = working_row(kerf, boxes[v].sides.as_slice());
     }
@@ -54,8 +54,8 @@ pub(crate) fn greater_sides(first: &[u32; 4], second: &[u32; 4]) -> [u32; 4]
 }
 
 /// The greatest side of the first rows in each dimension.
-pub(crate) fn longest_sides(rows: &[[u32; 4]; MOST_BOXES], count: usize) -> [u32; 4]
-    requires { count ≤ most_boxes }
+pub(crate) fn longest_sides(rows: &[[u32; 4]; MAX_BOXES], count: usize) -> [u32; 4]
+    requires { count ≤ max_boxes }
     ensures { (v i : ℕ) → v < count → i < 4
         → slice_index (slice_index_or rows.now v []) i ≤ slice_index result i }
 {

@@ -35,7 +35,7 @@ fn leaves_the_rest<R: AllocGlobal + Threads + Wait + Sync>(
 }
 
 #[test]
-fn nothing_behind_a_refused_line_is_read(rt: HostRuntime) -> Result<(), Fail> {
+fn check_reads_no_byte_after_a_refused_line(rt: HostRuntime) -> Result<(), Fail> {
     let plans: [&[ReadStep]; 3] = [&[], &[ReadStep::Give(1); 12], &[ReadStep::Give(7); 12]];
     for plan in plans {
         assert!(rt; leaves_the_rest(&rt, plan)?);

@@ -9,10 +9,10 @@ use Rattle.packing_terms.specs.Tokens.{PlainToken}
 use Rattle.packing_terms.specs.Tokens.PlainToken.{Choose, SetRefuted, ValueShort}
 use Rattle.packing_terms.specs.OuterRefutation.{insert_box}
 use Rattle.packing_terms.specs.Rank.{ranked}
-use Rattle.tree_terms.specs.Trees.{SearchTree, Refuted, Split, Verdict, Yes, No, Decided, Past, outcome, told, count_of}
+use Rattle.tree_terms.specs.Trees.{SearchTree, Refuted, Split, Verdict, Yes, No, Decided, Past, outcome, under_budget, count_of}
 use Rattle.tree_terms.specs.OuterTrees.{set_verdict, taken_child, choice_of, is_reached, is_short, choice_numbers}
 use Rattle.tree_terms.specs.OuterTrees.{choice_node}
-use Rattle.tree_terms.specs.Paths.{most_budget, Leaf, node_told}
+use Rattle.tree_terms.specs.Paths.{max_budget, Leaf, node_view}
 use Rattle.tree_terms.proofs.Told.{told_past}
 use Rattle.tree_terms.proofs.Joins.{count_join_no}
 use Rattle.set_search.proofs.Verdicts.{finished}
@@ -24,11 +24,11 @@ use Rattle.choice_search.proofs.NodeOutcomes.{own_first, inside_counts}
 
 -- a node whose own count is past every budget is told as a leaf
 past_told : (instance : PlainInstance) (scales : Bool) (goal : ℕ) (rest taken numbers : List ℕ) (own : ℕ)
-    → most_budget < own
-    → node_told (choice_node instance scales goal rest taken numbers own) ≡ Leaf
+    → max_budget < own
+    → node_view (choice_node instance scales goal rest taken numbers own) ≡ Leaf
 past_told instance scales goal [] taken numbers own l = go (is_reached instance goal taken)
   where
-    go : (b : Bool) → node_told (choice_of b true (choice_numbers instance taken numbers) own
+    go : (b : Bool) → node_view (choice_of b true (choice_numbers instance taken numbers) own
         (Refuted (ValueShort ∷ []) own)) ≡ Leaf
     go true = refl
     go false = refl
@@ -36,22 +36,22 @@ past_told instance scales goal (v ∷ vs) taken numbers own l =
     go (is_reached instance goal taken) (is_short instance goal taken (v ∷ vs)) _
   where
     go : (b s : Bool) (f : ℕ → SearchTree)
-        → node_told (choice_of b s (choice_numbers instance taken numbers) own (Split (Choose (suc v)) own 2 f)) ≡ Leaf
+        → node_view (choice_of b s (choice_numbers instance taken numbers) own (Split (Choose (suc v)) own 2 f)) ≡ Leaf
     go true s f = refl
     go false true f = refl
-    go false false f = rw (lt-ltb most_budget own l) refl
+    go false false f = rw (lt-ltb max_budget own l) refl
 
 -- a node that isn't split is told as a leaf
 pub reached_told : (instance : PlainInstance) (scales : Bool) (goal : ℕ) (rest taken numbers : List ℕ) (own : ℕ)
     → is_reached instance goal taken ≡ true
-    → node_told (choice_node instance scales goal rest taken numbers own) ≡ Leaf
+    → node_view (choice_node instance scales goal rest taken numbers own) ≡ Leaf
 reached_told instance scales goal [] taken numbers own e = rw e refl
 reached_told instance scales goal (v ∷ vs) taken numbers own e = rw e refl
 
 pub short_told : (instance : PlainInstance) (scales : Bool) (goal : ℕ) (rest taken numbers : List ℕ) (own : ℕ)
     → is_reached instance goal taken ≡ false
     → is_short instance goal taken rest ≡ true
-    → node_told (choice_node instance scales goal rest taken numbers own) ≡ Leaf
+    → node_view (choice_node instance scales goal rest taken numbers own) ≡ Leaf
 short_told instance scales goal [] taken numbers own e f = rw e refl
 short_told instance scales goal (v ∷ vs) taken numbers own e f = rw (e, f) refl
 
@@ -83,14 +83,14 @@ module _ (t : PlainChoiceTree) (decided : ℕ) (taken : List ℕ) (a : IsAbove t
   below w = taken_child w (λ ns count. choice_node t.instance t.scales t.goal (drop (decided + 1) (ranked t.instance))
       (insert_box (box_at t.instance decided) taken) ns count)
 
-  pub first_past : (cap : ℕ) → cap ≤ count_of set → Past ≡ told cap (outcome (child_tree t decided taken 0))
+  pub first_past : (cap : ℕ) → cap ≤ count_of set → Past ≡ under_budget cap (outcome (child_tree t decided taken 0))
   first_past cap l =
       let k = inside_counts t.instance t.scales t.goal (box_at t.instance decided)
       (drop (decided + 1) (ranked t.instance)) taken set in
       sym (told_past cap (outcome (child_tree t decided taken 0)) (omega (arith, k, l)))
 
   pub first_refuted : (cap : ℕ) (ts : List PlainToken) (cost own : ℕ) → set ≡ No ts cost → own ≡ 1 + cost → own ≤ cap
-      → Decided (No (SetRefuted None ∷ ts) own) ≡ told cap (outcome (child_tree t decided taken 0))
+      → Decided (No (SetRefuted None ∷ ts) own) ≡ under_budget cap (outcome (child_tree t decided taken 0))
   first_refuted cap ts cost own e f l =
       finished cap (No (SetRefuted None ∷ ts) own) (outcome (child_tree t decided taken 0))
       (ap (λ n. No (SetRefuted None ∷ ts) n) f ∙ ap (λ w. outcome (below w)) (sym e)) l
@@ -102,17 +102,17 @@ module _ (t : PlainChoiceTree) (decided : ℕ) (taken : List ℕ) (a : IsAbove t
       ap (λ n. choice_node t.instance t.scales t.goal (drop (decided + 1) (ranked t.instance))
       (insert_box (box_at t.instance decided) taken) ns n) f ∙ ap below (sym e)
 
-  pub first_past_told : most_budget ≤ count_of set → Leaf ≡ node_told (child_tree t decided taken 0)
+  pub first_past_told : max_budget ≤ count_of set → Leaf ≡ node_view (child_tree t decided taken 0)
   first_past_told l = sym (go set l)
     where
-      go : (w : Verdict) → most_budget ≤ count_of w → node_told (below w) ≡ Leaf
+      go : (w : Verdict) → max_budget ≤ count_of w → node_view (below w) ≡ Leaf
       go (No ts n) m = refl
       go (Yes ns n) m = past_told t.instance t.scales t.goal (drop (decided + 1) (ranked t.instance))
           (insert_box (box_at t.instance decided) taken) ns (1 + n) (omega (arith, m))
 
   pub first_refuted_told : (ts : List PlainToken) (cost : ℕ) → set ≡ No ts cost
-      → Leaf ≡ node_told (child_tree t decided taken 0)
-  first_refuted_told ts cost e = sym (ap (λ w. node_told (below w)) e)
+      → Leaf ≡ node_view (child_tree t decided taken 0)
+  first_refuted_told ts cost e = sym (ap (λ w. node_view (below w)) e)
 
   pub second_past : 0 < count_of (outcome (child_tree t decided taken 1))
   second_past =

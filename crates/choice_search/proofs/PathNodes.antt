@@ -13,7 +13,7 @@ use Rattle.packing_terms.proofs.WithBoxes.{inserted_some}
 use Rattle.tree_terms.specs.Trees.{SearchTree, Refuted, Split, Verdict, Yes, No, node_at}
 use Rattle.tree_terms.specs.OuterTrees.{set_verdict, yes_numbers, taken_child, choice_of, is_reached, is_short}
 use Rattle.tree_terms.specs.OuterTrees.{choice_numbers, choice_node}
-use Rattle.tree_terms.specs.Paths.{most_budget, own_of, IsReachable}
+use Rattle.tree_terms.specs.Paths.{max_budget, own_of, IsReachable}
 use Rattle.tree_terms.proofs.BinSearch.{set_right}
 use Rattle.set_search.specs.Children.{IsFound}
 use Rattle.set_search.proofs.Sets.{places_count}
@@ -40,7 +40,7 @@ module _ (t : PlainChoiceTree) (limits : IsInternalInstance t.instance) where
       go (u ∷ us) l h = ap yes_numbers h
 
   fitting : (v : ℕ) (taken ns : List ℕ) (cost : ℕ) → set_verdict t.instance t.scales (insert_box v taken) ≡ Yes ns cost
-      → cost ≤ most_budget
+      → cost ≤ max_budget
       → AreFitting t.instance t.scales (insert_box v taken)
   fitting v taken ns cost e l = go (insert_box v taken) e
     where
@@ -51,7 +51,7 @@ module _ (t : PlainChoiceTree) (limits : IsInternalInstance t.instance) where
   -- what a step into a child comes to
   record IsInto (rest taken numbers : List ℕ) (own decided j : ℕ) (path : List ℕ) : Type 0 where
     there : decided < length (ranked t.instance)
-    within : own ≤ most_budget
+    within : own ≤ max_budget
     is : node_at (Some (choice_node t.instance t.scales t.goal rest taken numbers own)) (j ∷ path)
         ≡ node_at (Some (child_tree t decided taken j)) path
     reached : IsReachable (child_tree t decided taken j) path

@@ -9,7 +9,7 @@ use Rattle.packing_terms.specs.OuterRefutation.{Choice, no_choice}
 use Rattle.packing_terms.proofs.Internal.{internal_sides, some_dimension}
 use Rattle.scale_terms.proofs.Excess.{excess_law}
 use Rattle.tree_terms.specs.Trees.{SearchTree, node_at, PlainOutcome, Decided, Past, Verdict, Yes, No, outcome}
-use Rattle.tree_terms.specs.Trees.{count_of, told}
+use Rattle.tree_terms.specs.Trees.{count_of, under_budget}
 use Rattle.tree_terms.specs.Search.{IsYesVerdict}
 use Rattle.tree_terms.specs.OuterSearch.{IsChoiceRight}
 use Rattle.tree_terms.specs.Paths.{choice_at}
@@ -23,7 +23,7 @@ use Rattle.choice_search.specs.Choices.{PlainChoiceTree, shape}
 use Rattle.choice_search.specs.Rights.{IsRight, Decides}
 
 told_right : (t : PlainChoiceTree) (c : Choice) (budget : ℕ) (v : Verdict) → IsChoiceRight t.instance t.goal c v
-    → IsRight t c (told budget v)
+    → IsRight t c (under_budget budget v)
 told_right t c budget v h = go (nat_lt budget (count_of v))
   where
     go : (b : Bool) → IsRight t c (if b then Past else Decided v)
@@ -36,7 +36,7 @@ verdict_decides t (Yes numbers count) f g = g tt
 verdict_decides t (No tokens count) f g = f
 
 module _ (t : PlainChoiceTree) (limits : IsInternalInstance t.instance) where
-  decides_told : (cap : ℕ) → Decides t (told cap (outcome (shape t)))
+  decides_told : (cap : ℕ) → Decides t (under_budget cap (outcome (shape t)))
   decides_told cap = go (nat_lt cap (count_of (outcome (shape t))))
     where
       go : (b : Bool) → Decides t (if b then Past else Decided (outcome (shape t)))
@@ -46,12 +46,12 @@ module _ (t : PlainChoiceTree) (limits : IsInternalInstance t.instance) where
 
   -- at a node
   pub right_at : (path : List ℕ) (cap : ℕ) (r : PlainOutcome)
-      → IsSome (node_at (Some (shape t)) path) → IfSome (node_at (Some (shape t)) path) (λ x. r ≡ told cap (outcome x))
+      → IsSome (node_at (Some (shape t)) path) → IfSome (node_at (Some (shape t)) path) (λ x. r ≡ under_budget cap (outcome x))
       → IsRight t (choice_at no_choice (shape t) path) r
   right_at path cap r there h = go (node_at (Some (shape t)) path) refl there h
     where
       go : (o : Option SearchTree) → node_at (Some (shape t)) path ≡ o → IsSome o
-          → IfSome o (λ x. r ≡ told cap (outcome x))
+          → IfSome o (λ x. r ≡ under_budget cap (outcome x))
           → IsRight t (choice_at no_choice (shape t) path) r
       go None e k f = absurd (true≢false (sym k))
       go (Some node) e k f =
@@ -62,12 +62,12 @@ module _ (t : PlainChoiceTree) (limits : IsInternalInstance t.instance) where
 
   -- at the root
   pub decides_at : (path : List ℕ) (cap : ℕ) (r : PlainOutcome)
-      → IfSome (node_at (Some (shape t)) path) (λ x. r ≡ told cap (outcome x)) → path ≡ [] → Decides t r
+      → IfSome (node_at (Some (shape t)) path) (λ x. r ≡ under_budget cap (outcome x)) → path ≡ [] → Decides t r
   decides_at [] cap r f p = rw f (decides_told cap)
   decides_at (k ∷ path) cap r f p = absurd (cc (p))
 
   pub told_at : (path : List ℕ) (cap : ℕ) (r : PlainOutcome)
-      → IfSome (node_at (Some (shape t)) path) (λ x. r ≡ told cap (outcome x)) → path ≡ []
+      → IfSome (node_at (Some (shape t)) path) (λ x. r ≡ under_budget cap (outcome x)) → path ≡ []
       → 3 ^ (dims t.instance * box_count t.instance * (box_count t.instance - 1) / 2)
       * (2 ^ (box_count t.instance + 1) - 2) ≤ cap → IsYesOrNo r
   told_at [] cap r f p l =

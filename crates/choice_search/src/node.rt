@@ -5,12 +5,12 @@ ghost use Rattle.packing_terms.specs.Goals.{worth, IsBoxSet};
 ghost use Rattle.packing_terms.specs.OuterRefutation.{insert_box};
 ghost use Rattle.packing_terms.specs.Rank.{ranked};
 ghost use Rattle.tree_terms.specs.OuterTrees.{choice_node};
-ghost use Rattle.tree_terms.specs.Paths.{node_told, most_budget};
+ghost use Rattle.tree_terms.specs.Paths.{node_view, max_budget};
 ghost use Rattle.work_share.specs.Nodes.{plain_node};
 ghost use Rattle.choice_search.specs.Choices.{IsMet, IsOpened};
 
 use box_instances::{Instance, NoMemory};
-use proof_tree::{Token, TokenList};
+use proof_tree::{CompactTokens, Token};
 use set_search::{Child, SetSearch};
 use std::alloc::Global;
 use work_share::Node;
@@ -92,14 +92,14 @@ pub(crate) fn open_first(
     node: &Chosen,
     v: u32,
     left: u64,
-    tokens: &mut TokenList,
+    tokens: &mut CompactTokens,
 ) -> Result<Opened, NoMemory>
     requires { IsBoxSet search.old.instance (insert_box v node.now.taken.items) }
     ensures same { search.new ≡ search.old }
     ensures opened { IfOk result (λ r. IsOpened search.old.instance search.old.scales node.now v left
         tokens.old tokens.new r) }
 {
-    match search.grow(alloc, &node.taken, v, left, None, tokens)? {
+    match search.decide_with_box(alloc, &node.taken, v, left, None, tokens)? {
         Child::Past => Ok(Opened::Past),
         Child::Refuted { own } => {
             if own == left {
@@ -130,8 +130,8 @@ pub(crate) fn tell(
 ) -> Node
     requires met { IsMet instance.now value decided taken.now kind }
     requires boxes { AreBoxes instance.now (drop decided (ranked instance.now)) }
-    requires within { own ≤ most_budget }
-    ensures { (scales : Bool) (numbers : List ℕ) → plain_node result ≡ node_told
+    requires within { own ≤ max_budget }
+    ensures { (scales : Bool) (numbers : List ℕ) → plain_node result ≡ node_view
         (choice_node instance.now scales value (drop decided (ranked instance.now)) taken.now
         numbers own) }
 {

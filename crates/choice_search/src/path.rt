@@ -4,8 +4,8 @@ ghost use Rattle.packing_terms.specs.Limits.{IsInternalInstance};
 ghost use Rattle.packing_terms.specs.Rules.{AreBoxes};
 ghost use Rattle.packing_terms.specs.Goals.{IsBoxSet};
 ghost use Rattle.packing_terms.specs.Rank.{ranked};
-ghost use Rattle.tree_terms.specs.Trees.{outcome, told};
-ghost use Rattle.tree_terms.specs.Paths.{node_told};
+ghost use Rattle.tree_terms.specs.Trees.{outcome, under_budget};
+ghost use Rattle.tree_terms.specs.Paths.{node_view};
 ghost use Rattle.work_share.specs.Outcomes.{plain_outcome};
 ghost use Rattle.work_share.specs.Nodes.{plain_node};
 ghost use Rattle.choice_search.specs.Paths.{taken_along, class_answer, AreFitting, IsAbove, child_tree};
@@ -13,8 +13,8 @@ ghost use Rattle.choice_search.specs.Paths.{taken_along, class_answer, AreFittin
 use crate::node::{Chosen, meet, tell};
 use crate::walk::walk;
 use box_instances::{Instance, NoMemory};
-use proof_tree::{Outcome, TokenList};
-use set_search::{Child, MOST_BUDGET, SetSearch, put_box};
+use proof_tree::{CompactTokens, Outcome};
+use set_search::{Child, MAX_BUDGET, SetSearch, put_box};
 use std::alloc::Global;
 use work_share::Node;
 
@@ -75,13 +75,13 @@ pub(crate) fn explore_first(
     requires search { search.old.instance ≡ instance.now }
     requires order { order.now ≡ ranked instance.now }
     requires above { IsAbove instance.now search.old.scales above.decided above.taken.items }
-    ensures { IfOk result (λ r. plain_outcome r ≡ told cap (outcome (child_tree
+    ensures { IfOk result (λ r. plain_outcome r ≡ under_budget cap (outcome (child_tree
         (record { instance = instance.now; goal = value; scales = search.old.scales })
         above.decided above.taken.items 0))) }
 {
-    let mut tokens = TokenList::new(alloc);
+    let mut tokens = CompactTokens::new(alloc);
     let v = order[above.decided];
-    match search.grow(alloc, &above.taken, v, cap, None, &mut tokens)? {
+    match search.decide_with_box(alloc, &above.taken, v, cap, None, &mut tokens)? {
         Child::Past => Ok(Outcome::Past),
         Child::Refuted { own } => Ok(Outcome::No { tokens, count: own }),
         Child::Fits { set, numbers, own } => {
@@ -109,7 +109,7 @@ pub(crate) fn explore_second(
     requires search { search.old.instance ≡ instance.now }
     requires order { order.now ≡ ranked instance.now }
     requires above { IsAbove instance.now search.old.scales above.decided above.taken.items }
-    ensures { IfOk result (λ r. plain_outcome r ≡ told cap (outcome (child_tree
+    ensures { IfOk result (λ r. plain_outcome r ≡ under_budget cap (outcome (child_tree
         (record { instance = instance.now; goal = value; scales = search.old.scales })
         above.decided above.taken.items 1))) }
 {
@@ -138,13 +138,13 @@ pub(crate) fn tell_first(
     requires search { search.old.instance ≡ instance.now }
     requires order { order.now ≡ ranked instance.now }
     requires above { IsAbove instance.now search.old.scales above.decided above.taken.items }
-    ensures { IfOk result (λ r. plain_node r ≡ node_told (child_tree
+    ensures { IfOk result (λ r. plain_node r ≡ node_view (child_tree
         (record { instance = instance.now; goal = value; scales = search.old.scales })
         above.decided above.taken.items 0)) }
 {
-    let mut tokens = TokenList::new(alloc);
+    let mut tokens = CompactTokens::new(alloc);
     let v = order[above.decided];
-    match search.grow(alloc, &above.taken, v, MOST_BUDGET, None, &mut tokens)? {
+    match search.decide_with_box(alloc, &above.taken, v, MAX_BUDGET, None, &mut tokens)? {
         Child::Past => Ok(Node::Leaf),
         Child::Refuted { own: _ } => Ok(Node::Leaf),
         Child::Fits {
@@ -165,7 +165,7 @@ pub(crate) fn tell_second(instance: &Instance, order: &[u32], value: u64, above:
     requires there { above.decided < length order.now }
     requires rest { AreBoxes instance.now (drop (above.decided + 1) (ranked instance.now)) }
     requires taken { AreBoxes instance.now above.taken.items }
-    ensures { (scales : Bool) → plain_node result ≡ node_told (child_tree
+    ensures { (scales : Bool) → plain_node result ≡ node_view (child_tree
         (record { instance = instance.now; goal = value; scales = scales })
         above.decided above.taken.items 1) }
 {

@@ -1,7 +1,7 @@
 //! The choice tree, explored by several workers.
 ghost use Rattle.std.specs.Prelude.{◌≡◌, IfOk, IfSome, MatchBool, Some};
-ghost use Rattle.tree_terms.specs.Trees.{outcome, told, node_at};
-ghost use Rattle.tree_terms.specs.Paths.{node_told, outcome_at, IsReachable};
+ghost use Rattle.tree_terms.specs.Trees.{outcome, under_budget, node_at};
+ghost use Rattle.tree_terms.specs.Paths.{node_view, outcome_at, IsReachable};
 ghost use Rattle.work_share.specs.Outcomes.{plain_outcome};
 ghost use Rattle.work_share.specs.Nodes.{plain_node};
 ghost use Rattle.choice_search.specs.Choices.{shape, same_trees};
@@ -45,7 +45,7 @@ impl<'a, 'b> Tree for PooledTree<'a, 'b> {
     fn explore(&self, alloc: Global, path: &[u32], cap: u64) -> Result<Outcome, NoMemory>
         requires { IsReachable (shape self.now) path.now }
         ensures { IfOk result (λ r. IfSome (outcome_at (shape self.now) path.now)
-            (λ v. plain_outcome r ≡ told cap v)) }
+            (λ v. plain_outcome r ≡ under_budget cap v)) }
     {
         let mut search = self.search.take(alloc)?;
         let outcome = self.tree.explore_node(alloc, &mut search, path, cap)?;
@@ -56,7 +56,7 @@ impl<'a, 'b> Tree for PooledTree<'a, 'b> {
     fn node(&self, alloc: Global, path: &[u32]) -> Result<Node, NoMemory>
         requires { IsReachable (shape self.now) path.now }
         ensures { IfOk result (λ r. IfSome (node_at (Some (shape self.now)) path.now)
-            (λ node. plain_node r ≡ node_told node)) }
+            (λ node. plain_node r ≡ node_view node)) }
     {
         let mut search = self.search.take(alloc)?;
         let node = self.tree.tell_node(alloc, &mut search, path)?;
@@ -94,7 +94,7 @@ impl<'a> ChoiceTree<'a> {
         } }
         ensures same { search.new ≡ search.old }
         ensures outcome { IfOk result
-            (λ r. plain_outcome r ≡ told settings.now.budget (outcome (shape self.now))) }
+            (λ r. plain_outcome r ≡ under_budget settings.now.budget (outcome (shape self.now))) }
     {
         if settings.workers <= 1 {
             return self.explore_with(alloc, search, settings.budget);

@@ -2,8 +2,8 @@
 ghost use Rattle.std.specs.Prelude.{◌≡◌, ◌+◌, ◌-◌, ◌*◌, ◌/◌, ◌^◌, ◌≤◌, IfOk, IfSome, MatchBool, Some, [], length};
 ghost use Rattle.packing_terms.specs.Packing.{dims, box_count};
 ghost use Rattle.packing_terms.specs.OuterRefutation.{no_choice};
-ghost use Rattle.tree_terms.specs.Trees.{outcome, told, node_at};
-ghost use Rattle.tree_terms.specs.Paths.{choice_at, node_told, outcome_at, IsReachable};
+ghost use Rattle.tree_terms.specs.Trees.{outcome, under_budget, node_at};
+ghost use Rattle.tree_terms.specs.Paths.{choice_at, node_view, outcome_at, IsReachable};
 ghost use Rattle.work_share.specs.Outcomes.{plain_outcome};
 ghost use Rattle.work_share.specs.Nodes.{plain_node};
 ghost use Rattle.class_search.specs.Right.{IsYesOrNo};
@@ -82,7 +82,7 @@ impl<'a> ChoiceTree<'a> {
         } }
         ensures same { search.new ≡ search.old }
         ensures outcome { IfOk result
-            (λ r. plain_outcome r ≡ told cap (outcome (shape self.now))) }
+            (λ r. plain_outcome r ≡ under_budget cap (outcome (shape self.now))) }
     {
         // For the proof alone: tells the limits of the instance.
         let _limits = self.instance.len();
@@ -119,7 +119,7 @@ impl<'a> ChoiceTree<'a> {
         requires path { 1 ≤ length path.now }
         requires reached { IsReachable (shape self.now) path.now }
         ensures { IfOk result (λ r. IfSome (node_at (Some (shape self.now)) path.now)
-            (λ node. plain_outcome r ≡ told cap (outcome node))) }
+            (λ node. plain_outcome r ≡ under_budget cap (outcome node))) }
     {
         // For the proof alone: tells the limits of the instance.
         let _limits = self.instance.len();
@@ -147,7 +147,7 @@ impl<'a> ChoiceTree<'a> {
         } }
         requires reached { IsReachable (shape self.now) path.now }
         ensures { IfOk result (λ r. IfSome (node_at (Some (shape self.now)) path.now)
-            (λ node. plain_outcome r ≡ told cap (outcome node))) }
+            (λ node. plain_outcome r ≡ under_budget cap (outcome node))) }
     {
         if path.is_empty() {
             self.explore_with(alloc, search, cap)
@@ -158,7 +158,7 @@ impl<'a> ChoiceTree<'a> {
 
     // What is told of the root.
     fn tell_root(&self) -> Node
-        ensures { plain_node result ≡ node_told (shape self.now) }
+        ensures { plain_node result ≡ node_view (shape self.now) }
     {
         // For the proof alone: tells the limits of the instance.
         let _limits = self.instance.len();
@@ -181,7 +181,7 @@ impl<'a> ChoiceTree<'a> {
         requires path { 1 ≤ length path.now }
         requires reached { IsReachable (shape self.now) path.now }
         ensures { IfOk result (λ r. IfSome (node_at (Some (shape self.now)) path.now)
-            (λ node. plain_node r ≡ node_told node)) }
+            (λ node. plain_node r ≡ node_view node)) }
     {
         // For the proof alone: tells the limits of the instance.
         let _limits = self.instance.len();
@@ -208,7 +208,7 @@ impl<'a> ChoiceTree<'a> {
         } }
         requires reached { IsReachable (shape self.now) path.now }
         ensures { IfOk result (λ r. IfSome (node_at (Some (shape self.now)) path.now)
-            (λ node. plain_node r ≡ node_told node)) }
+            (λ node. plain_node r ≡ node_view node)) }
     {
         if path.is_empty() {
             Ok(self.tell_root())
@@ -234,7 +234,7 @@ impl<'a> Tree for ChoiceTree<'a> {
     fn explore(&self, alloc: Global, path: &[u32], cap: u64) -> Result<Outcome, NoMemory>
         requires { IsReachable (shape self.now) path.now }
         ensures outcome { IfOk result (λ r. IfSome (outcome_at (shape self.now) path.now)
-            (λ v. plain_outcome r ≡ told cap v)) }
+            (λ v. plain_outcome r ≡ under_budget cap v)) }
         ensures right { IfOk result (λ r. IsRight self.now
             (choice_at no_choice (shape self.now) path.now) (plain_outcome r)) }
         ensures decides { path.now ≡ [] → IfOk result (λ r. Decides self.now (plain_outcome r)) }
@@ -254,7 +254,7 @@ impl<'a> Tree for ChoiceTree<'a> {
     fn node(&self, alloc: Global, path: &[u32]) -> Result<Node, NoMemory>
         requires { IsReachable (shape self.now) path.now }
         ensures { IfOk result (λ r. IfSome (node_at (Some (shape self.now)) path.now)
-            (λ node. plain_node r ≡ node_told node)) }
+            (λ node. plain_node r ≡ node_view node)) }
     {
         let mut search = SetSearch::new(alloc, self.instance, self.scales)?;
         self.tell_node(alloc, &mut search, path)

@@ -3,7 +3,7 @@
 ghost use Rattle.std.specs.Prelude.{◌≡◌, ◌≤◌, IfOk, drop};
 ghost use Rattle.packing_terms.specs.Limits.{IsInternalInstance};
 ghost use Rattle.packing_terms.specs.Rank.{ranked};
-ghost use Rattle.tree_terms.specs.Trees.{outcome, told};
+ghost use Rattle.tree_terms.specs.Trees.{outcome, under_budget};
 ghost use Rattle.tree_terms.specs.OuterTrees.{choice_node};
 ghost use Rattle.work_share.specs.Outcomes.{plain_outcome};
 ghost use Rattle.choice_search.specs.Choices.{IsChosen};
@@ -11,7 +11,7 @@ ghost use Rattle.choice_search.specs.Choices.{IsChosen};
 use crate::node::{Chosen, NodeKind, Opened, meet, open_first};
 use crate::numbers::choice_numbers;
 use box_instances::{Instance, NoMemory};
-use proof_tree::{Outcome, Token, TokenList};
+use proof_tree::{CompactTokens, Outcome, Token};
 use set_search::SetSearch;
 use std::alloc::Global;
 use std::mem;
@@ -33,12 +33,12 @@ pub(crate) fn walk(
     requires node { IsChosen instance.now node.decided node.taken.items node.numbers.items }
     requires within { own ≤ cap }
     ensures same { search.new ≡ search.old }
-    ensures outcome { IfOk result (λ r. plain_outcome r ≡ told cap (outcome
+    ensures outcome { IfOk result (λ r. plain_outcome r ≡ under_budget cap (outcome
         (choice_node instance.now search.old.scales value (drop node.decided (ranked instance.now))
         node.taken.items node.numbers.items own))) }
 {
     let mut stack: Vec<Chosen> = Vec::new(alloc);
-    let mut tokens = TokenList::new(alloc);
+    let mut tokens = CompactTokens::new(alloc);
     let mut count = own;
     let mut node = node;
     loop {

@@ -3,14 +3,14 @@ use Rattle.std.proofs.Common.{◌≡◌, ℕ, refl, sym, ap, subst, ◌∙◌, L
 use Rattle.std.proofs.Common.{IsSome}
 use Rattle.std.proofs.lemmas.Bool.{true≢false}
 use Rattle.packing_terms.specs.Packing.{PlainInstance}
-use Rattle.tree_terms.specs.Trees.{SearchTree, PlainOutcome, node_at, outcome, told}
+use Rattle.tree_terms.specs.Trees.{SearchTree, PlainOutcome, node_at, outcome, under_budget}
 use Rattle.tree_terms.specs.Paths.{outcome_of}
 use Rattle.tree_terms.proofs.Reached.{node_parts}
 use Rattle.class_search.specs.declared.kept.Kept.{Kept}
-use Rattle.class_search.specs.declared.kept.Standing.{Standing}
-use Rattle.class_search.specs.declared.kept.Parts.{Parts}
+use Rattle.class_search.specs.declared.kept.PausedWalk.{PausedWalk}
+use Rattle.class_search.specs.declared.kept.WalkSplit.{WalkSplit}
 use Rattle.class_search.specs.declared.kept.Explored.{Explored}
-use Rattle.class_search.specs.Kept.{IsStanding, standing_tree, IsWalkOf, IsKeptOf, HasChild, ArePartsOf, IsExplored}
+use Rattle.class_search.specs.Kept.{IsPausedWalk, standing_tree, IsWalkOf, IsKeptOf, HasChild, ArePartsOf, IsExplored}
 use Rattle.class_search.specs.Kept.{IsKeptAt}
 use Rattle.class_search.specs.Tree.{PlainClassTree, shape}
 
@@ -35,20 +35,20 @@ child_piece t path k kept P has there known = go (node_at (Some (shape t)) path)
         }
 
 -- the walk that was left at a node
-pub left_stands : (instance : PlainInstance) (o : Option SearchTree) (left : Option Standing) (s : Standing)
+pub left_stands : (instance : PlainInstance) (o : Option SearchTree) (left : Option PausedWalk) (s : PausedWalk)
     → left ≡ Some s → IsSome o
-    → IfSome o (λ node. IfSome left (IsWalkOf instance node)) → IsStanding s
+    → IfSome o (λ node. IfSome left (IsWalkOf instance node)) → IsPausedWalk s
 left_stands instance None left s is there known = absurd (true≢false (sym there))
 left_stands instance (Some node) left s is there known =
-    (subst (λ (l : Option Standing). IfSome l (IsWalkOf instance node)) is known).stands
+    (subst (λ (l : Option PausedWalk). IfSome l (IsWalkOf instance node)) is known).stands
 
-pub left_parts : (instance : PlainInstance) (o : Option SearchTree) (left : Option Standing) (s : Standing)
-    (parts : Parts) → left ≡ Some s
+pub left_parts : (instance : PlainInstance) (o : Option SearchTree) (left : Option PausedWalk) (s : PausedWalk)
+    (parts : WalkSplit) → left ≡ Some s
     → ArePartsOf s.instance.now (standing_tree s) parts → IfSome o (λ node. IfSome left (IsWalkOf instance node))
     → IfSome o (λ node. ArePartsOf instance node parts)
 left_parts instance None left s parts is h known = tt
 left_parts instance (Some node) left s parts is h known =
-    let w = subst (λ (l : Option Standing). IfSome l (IsWalkOf instance node)) is known in
+    let w = subst (λ (l : Option PausedWalk). IfSome l (IsWalkOf instance node)) is known in
     subst (λ (t : SearchTree). ArePartsOf instance t parts) w.is
     (subst (λ (i : PlainInstance). ArePartsOf i (standing_tree s) parts) w.here h)
 
@@ -66,16 +66,16 @@ explored_left instance None cap e h = tt
 explored_left instance (Some node) cap e h = h.left
 
 pub explored_told : (instance : PlainInstance) (o : Option SearchTree) (cap : ℕ) (e : Explored) (r : PlainOutcome)
-    → ((tree : SearchTree) → IsExplored instance tree cap e → r ≡ told cap (outcome tree))
-    → IfSome o (λ node. IsExplored instance node cap e) → IfSome (outcome_of o) (λ v. r ≡ told cap v)
+    → ((tree : SearchTree) → IsExplored instance tree cap e → r ≡ under_budget cap (outcome tree))
+    → IfSome o (λ node. IsExplored instance node cap e) → IfSome (outcome_of o) (λ v. r ≡ under_budget cap v)
 explored_told instance None cap e r f h = tt
 explored_told instance (Some node) cap e r f h = f node h
 
 -- what is told of a walk's node is told of the node at which the walk was left
 pub left_node : {A : Type 0} (tell : SearchTree → A) (instance : PlainInstance) (o : Option SearchTree)
-    (left : Option Standing) (s : Standing) (node : A) → left ≡ Some s → node ≡ tell (standing_tree s)
+    (left : Option PausedWalk) (s : PausedWalk) (node : A) → left ≡ Some s → node ≡ tell (standing_tree s)
     → IfSome o (λ t. IfSome left (IsWalkOf instance t)) → IfSome o (λ t. node ≡ tell t)
 left_node tell instance None left s node is h known = tt
 left_node tell instance (Some t) left s node is h known =
-    let w = subst (λ (l : Option Standing). IfSome l (IsWalkOf instance t)) is known in
+    let w = subst (λ (l : Option PausedWalk). IfSome l (IsWalkOf instance t)) is known in
     h ∙ ap tell w.is

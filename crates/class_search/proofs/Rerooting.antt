@@ -14,13 +14,13 @@ use Rattle.class_search.specs.declared.splits.Child.TheVariants.{First}
 use Rattle.class_search.specs.declared.walk.Size.{Size}
 use Rattle.class_search.specs.declared.walk.Frame.{Frame}
 use Rattle.class_search.specs.declared.walk.Walk.{Walk}
-use Rattle.class_search.specs.declared.kept.Standing.{Standing}
+use Rattle.class_search.specs.declared.kept.PausedWalk.{PausedWalk}
 use Rattle.class_search.specs.declared.kept.Refuted.{Refuted as RefutedNode}
 use Rattle.class_search.specs.declared.visit.NodeKind.TheVariants.{Divided}
 use Rattle.class_search.specs.Splits.{plain_split, added, IsSplitAmong}
 use Rattle.class_search.specs.Visits.{kind_tree, IsDivided}
 use Rattle.class_search.specs.Walks.{child_in, child_tree, frame_tree, root_of, IsFirst, AreMet}
-use Rattle.class_search.specs.Kept.{IsStanding, standing_tree, IsWalkOf, IsAllOf, HasChild}
+use Rattle.class_search.specs.Kept.{IsPausedWalk, standing_tree, IsWalkOf, IsAllOf, HasChild}
 
 -- the first of a list, and what is left of it
 pub head_apart : {A : Type 0} (xs : List A) (x : A) → 0 < length xs → x ≡ get_or xs 0 x → xs ≡ x ∷ remove xs 0
@@ -119,7 +119,7 @@ module _ (instance : PlainInstance) where
       (rerooted f (reverse rest) es here ts c (subst (λ (l : List Frame). AreMet instance l es here ts c) back m))
 
 -- the tokens and the count of the first split, and those of the first child where it is finished
-module _ (s : Standing) (f : Frame) (rest : List Frame) (e : s.walk.frames.items ≡ f ∷ rest) (h : IsStanding s) where
+module _ (s : PausedWalk) (f : Frame) (rest : List Frame) (e : s.walk.frames.items ≡ f ∷ rest) (h : IsPausedWalk s) where
   abbrev here : SearchTree
   here = kind_tree s.instance.now s.state.trail s.walk.node
 

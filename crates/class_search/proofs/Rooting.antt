@@ -17,7 +17,7 @@ use Rattle.packing_terms.specs.Sums.{below}
 use Rattle.rule_closure.specs.Closes.{IsClosure}
 use Rattle.tree_terms.specs.Trees.{SearchTree, Refuted, node_at}
 use Rattle.tree_terms.specs.InnerTree.{tree_below}
-use Rattle.tree_terms.specs.ClassTree.{first_too_large_box, exceeding_where, scales_after, root_of, closes_in_conflict}
+use Rattle.tree_terms.specs.ClassTree.{first_too_large_box, exceeding_where, scales_after, root_of, has_closure_conflict}
 use Rattle.tree_terms.specs.ClassTree.{class_tree}
 use Rattle.tree_terms.proofs.Closed.{same_closure}
 use Rattle.tree_terms.proofs.ClassSearch.{none_large}
@@ -94,7 +94,7 @@ module _ (instance : PlainInstance) where
 
   -- the class tree by the root's tests
   by_root : (es : List Exclusion) (scales : Bool) (l : Option (ℕ × ℕ)) (b : Bool) (o : Option (List ScaleFn))
-      → first_too_large_box instance ≡ l → closes_in_conflict instance es ≡ b
+      → first_too_large_box instance ≡ l → has_closure_conflict instance es ≡ b
       → scales_after instance scales b ≡ o → class_tree instance es scales ≡ root_of l b o (tree_below instance es)
   by_root es scales l b o e f g =
       ap₂ (λ x y. root_of x y (scales_after instance scales y) (tree_below instance es)) e f

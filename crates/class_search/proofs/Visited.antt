@@ -12,14 +12,14 @@ use Rattle.class_search.specs.declared.visit.NodeKind.{NodeKind}
 use Rattle.class_search.specs.declared.visit.NodeKind.TheVariants.{Conflict, Settled, Divided}
 use Rattle.class_search.specs.Settling.{pair_at}
 use Rattle.class_search.specs.Splits.{MaySplit}
-use Rattle.class_search.specs.Visits.{Grows, IsCalm, IsNextPair, IsMet}
+use Rattle.class_search.specs.Visits.{Grows, IsConsistent, IsNextPair, IsMet}
 use Rattle.class_search.proofs.Closings.{closed_set}
 use Rattle.class_search.proofs.Walking.{none_found, one_found}
 
 pub extends_grows : (instance : PlainInstance) (es fs : List Exclusion) → Extends instance es fs → Grows es fs
 extends_grows instance es fs h = record { more = h.more; grown = h.grown }
 
-closed_calm : (instance : PlainInstance) (es fs : List Exclusion) → IsClosure instance es fs → IsCalm instance fs
+closed_calm : (instance : PlainInstance) (es fs : List Exclusion) → IsClosure instance es fs → IsConsistent instance fs
 closed_calm instance es fs closed = record { stable = closed.stable; full = closed.full }
 
 pub next_met : (instance : PlainInstance) → 1 ≤ dims instance → (es fs : List Exclusion) (kind : NodeKind) → Grows es fs

@@ -8,7 +8,7 @@ use Rattle.packing_terms.specs.Tokens.{PlainToken}
 use Rattle.packing_terms.specs.Tokens.PlainToken.{Rules}
 use Rattle.edge_state.specs.Edges.{oldest}
 use Rattle.edge_state.proofs.Oldest.{oldest_more, oldest_all, oldest_count}
-use Rattle.tree_terms.specs.Trees.{SearchTree, Verdict, Yes, No, no_tokens, join, outcome, count_of, told, Decided}
+use Rattle.tree_terms.specs.Trees.{SearchTree, Verdict, Yes, No, no_tokens, join, outcome, count_of, under_budget, Decided}
 use Rattle.tree_terms.specs.InnerTree.{tree_below}
 use Rattle.tree_terms.proofs.Joins.{join_assoc, join_nothing, nothing_join, split_joins, count_join_no}
 use Rattle.tree_terms.proofs.NodeSteps.{set_tree}
@@ -22,7 +22,7 @@ use Rattle.class_search.specs.declared.walk.Frame.{Frame}
 use Rattle.class_search.specs.Splits.{plain_split, added, with_all}
 use Rattle.class_search.specs.Visits.{Grows, kind_tree, IsMet}
 use Rattle.class_search.specs.Walks.{size_of_both, child_in, child_tree, frame_tree, root_of, IsFirst, IsFrame, AreMet}
-use Rattle.class_search.specs.Walks.{IsAtNode, IsBehind}
+use Rattle.class_search.specs.Walks.{IsAtNode, IsAfterSubtree}
 use Rattle.class_search.proofs.Closings.{with_sets}
 use Rattle.class_search.proofs.Walking.{length_more, cut_back, with_grows, grows_on}
 
@@ -104,7 +104,7 @@ module _ (instance : PlainInstance) where
   -- a conflict is finished at once
   pub met_leaf : (whole : SearchTree) (fs : List Frame) (es : List Exclusion) (ts : List PlainToken) (c : ℕ)
       → IsAtNode instance whole fs es ts c Conflict
-      → IsBehind instance whole fs es (ts ++ Rules ∷ []) c (record { tokens = 1; count = 0 })
+      → IsAfterSubtree instance whole fs es (ts ++ Rules ∷ []) c (record { tokens = 1; count = 0 })
   met_leaf whole fs es ts c at_node = record {
     here = kind_tree instance es Conflict;
     before = ts;
@@ -121,8 +121,8 @@ module _ (instance : PlainInstance) where
   -- behind the second child the split is finished
   pub met_both : (whole : SearchTree) (f : Frame) (fs : List Frame) (es : List Exclusion) (ts : List PlainToken) (c : ℕ)
       (size first : Size) → f.first ≡ Some first
-      → IsBehind instance whole (f ∷ fs) es ts c size
-      → IsBehind instance whole fs (oldest f.mark es) ts c (size_of_both first size)
+      → IsAfterSubtree instance whole (f ∷ fs) es ts c size
+      → IsAfterSubtree instance whole fs (oldest f.mark es) ts c (size_of_both first size)
   met_both whole f fs es ts c size first is b =
       let s = b.met.0 in
       let done = subst (λ (o : Option Size). IsFirst instance f es o s.own s.own_count) is s.first in
@@ -153,7 +153,7 @@ module _ (instance : PlainInstance) where
 
   -- a size is within what was met
   pub size_within : (whole : SearchTree) (fs : List Frame) (es : List Exclusion) (ts : List PlainToken) (c : ℕ)
-      (size : Size) → IsBehind instance whole fs es ts c size
+      (size : Size) → IsAfterSubtree instance whole fs es ts c size
       → (size.tokens ≤ length ts) × (size.count ≤ c)
   size_within whole fs es ts c size b = (
     (let e = ap length b.all_tokens in let l = length-append b.before b.own in let m = b.own_size in
@@ -164,7 +164,7 @@ module _ (instance : PlainInstance) where
   -- behind the first child, into the second
   pub met_second : (whole : SearchTree) (f : Frame) (fs : List Frame) (es gs : List Exclusion) (ts : List PlainToken)
       (c : ℕ) (size : Size) (kind : NodeKind) → f.first ≡ None
-      → IsBehind instance whole (f ∷ fs) es ts c size
+      → IsAfterSubtree instance whole (f ∷ fs) es ts c size
       → IsMet instance (with_all (added f.split Second) (oldest f.mark es)) gs kind
       → IsAtNode instance whole (record { split = f.split; mark = f.mark; rank = f.rank; first = Some size } ∷ fs)
       gs ts c kind
@@ -300,19 +300,19 @@ module _ (instance : PlainInstance) where
       (numbers : List ℕ) → AreMet instance fs es (kind_tree instance es Settled) ts c
       → root_of instance fs es (kind_tree instance es Settled) ≡ whole
       → outcome (kind_tree instance es Settled) ≡ Yes numbers 0 → c ≤ cap
-      → Decided (Yes numbers c) ≡ told cap (outcome whole)
+      → Decided (Yes numbers c) ≡ under_budget cap (outcome whole)
   settled_told whole fs es ts c cap numbers met root found within =
       let j = met_joins fs es (kind_tree instance es Settled) ts c met in
       let e : outcome whole ≡ Yes numbers c =
       sym (ap outcome root) ∙ (j.1 ∙ (ap (λ v. join (No ts c) (join v j.0)) found
       ∙ ap (λ n. Yes numbers n) (add-zero c))) in
-      sym (ap (told cap) e ∙ told_decided cap (Yes numbers c) within)
+      sym (ap (under_budget cap) e ∙ told_decided cap (Yes numbers c) within)
 
   pub refuted_told : (whole : SearchTree) (es : List Exclusion) (ts : List PlainToken) (c cap : ℕ) (size : Size)
-      → IsBehind instance whole [] es ts c size → c ≤ cap
-      → Decided (No ts c) ≡ told cap (outcome whole)
+      → IsAfterSubtree instance whole [] es ts c size → c ≤ cap
+      → Decided (No ts c) ≡ under_budget cap (outcome whole)
   refuted_told whole es ts c cap size b within =
       let tokens : ts ≡ b.own = b.all_tokens ∙ ap (λ l. l ++ b.own) b.met.0 in
       let count : c ≡ size.count = (let n = b.all_count in let z = b.met.1 in omega (arith, n, z)) in
       let e : outcome whole ≡ No ts c = sym (ap outcome b.root) ∙ (b.gives ∙ sym (ap₂ No tokens count)) in
-      sym (ap (told cap) e ∙ told_decided cap (No ts c) within)
+      sym (ap (under_budget cap) e ∙ told_decided cap (No ts c) within)

@@ -1,7 +1,7 @@
 -- What is kept of the node at a path of a class tree.
 use Rattle.std.specs.Prelude.{ℕ, ◌≡◌, List, Some, IfSome}
 use Rattle.tree_terms.specs.Trees.{node_at}
-use Rattle.tree_terms.specs.Paths.{node_told}
+use Rattle.tree_terms.specs.Paths.{node_view}
 use Rattle.work_share.specs.declared.tree.Node.{Node}
 use Rattle.work_share.specs.Nodes.{plain_node}
 use Rattle.class_search.specs.declared.kept.Kept.{Kept}
@@ -20,4 +20,4 @@ pub record PlainSplit : Type 0 where
 
 -- the node at a path of the tree, if there is one, is this
 pub record IsSplitAt (tree : PlainClassTree) (path : List ℕ) (node : Node) : Type 0 where
-  pub is : IfSome (node_at (Some (shape tree)) path) (λ t. plain_node node ≡ node_told t)
+  pub is : IfSome (node_at (Some (shape tree)) path) (λ t. plain_node node ≡ node_view t)

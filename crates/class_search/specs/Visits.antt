@@ -21,7 +21,7 @@ pub record Grows (old new : List Exclusion) : Type 0 where
   pub grown : new ≡ more ++ old
 
 -- no rule adds to the exclusions, and no mask is empty
-pub record IsCalm (instance : PlainInstance) (es : List Exclusion) : Type 0 where
+pub record IsConsistent (instance : PlainInstance) (es : List Exclusion) : Type 0 where
   pub stable : IsStable instance (excludes es)
   pub full : HasNoEmptyMask instance (excludes es)
 
@@ -48,12 +48,12 @@ kind_tree instance es (Divided s k) = split_tree (plain_split s) (λ add. tree_b
 
 -- a closed state in which each pair is settled
 pub record IsSettledLeaf (instance : PlainInstance) (es : List Exclusion) : Type 0 where
-  pub no_conflict : IsCalm instance es
+  pub no_conflict : IsConsistent instance es
   pub settled : AreSettledBefore (excludes es) (dims instance) (ranked_pairs instance) (length (ranked_pairs instance))
 
 -- a closed state that is split so
 pub record IsDivided (instance : PlainInstance) (es : List Exclusion) (s : Split) (k : ℕ) : Type 0 where
-  pub no_conflict : IsCalm instance es
+  pub no_conflict : IsConsistent instance es
   pub split : IsNextSplit instance es s k
 
 -- what is known of a node of this kind

@@ -8,7 +8,7 @@ use Rattle.rule_terms.specs.Places.{HasNoEmptyMask}
 use Rattle.edge_state.specs.Edges.{oldest}
 use Rattle.packing_terms.specs.Rank.{ranked_pairs}
 use Rattle.packing_terms.specs.Tokens.{PlainToken}
-use Rattle.tree_terms.specs.Trees.{SearchTree, No, outcome, count_of, told}
+use Rattle.tree_terms.specs.Trees.{SearchTree, No, outcome, count_of, under_budget}
 use Rattle.tree_terms.specs.InnerTree.{tree_below}
 use Rattle.work_share.specs.Outcomes.{plain_outcome}
 use Rattle.class_search.specs.declared.visit.NodeKind.TheVariants.{Divided}
@@ -100,7 +100,7 @@ pub record IsWalk (instance : PlainInstance) (es : List Exclusion) (w : Walk) : 
 -- what becomes of the walk through a tree under a cap: what is told of it, or a walk through the
 -- same tree, whose count exceeds the cap
 abbrev pub IsEndOf : PlainInstance → List Exclusion → ℕ → SearchTree → End → Type 0
-IsEndOf instance es cap tree (Whole r) = plain_outcome r ≡ told cap (outcome tree)
+IsEndOf instance es cap tree (Whole r) = plain_outcome r ≡ under_budget cap (outcome tree)
 IsEndOf instance es cap tree (Stopped w) = IsWalk instance es w × (walk_tree instance es w ≡ tree)
     × (cap < count_of (outcome tree))
 
@@ -112,7 +112,7 @@ pub record IsAtNode (instance : PlainInstance) (whole : SearchTree) (fs : List F
   pub root : root_of instance fs es (kind_tree instance es kind) ≡ whole
 
 -- Behind a node that is finished with no, of this size.
-pub record IsBehind (instance : PlainInstance) (whole : SearchTree) (fs : List Frame) (es : List Exclusion)
+pub record IsAfterSubtree (instance : PlainInstance) (whole : SearchTree) (fs : List Frame) (es : List Exclusion)
     (tokens : List PlainToken) (count : ℕ) (size : Size) : Type 0 where
   pub here : SearchTree
   pub before : List PlainToken
@@ -127,7 +127,7 @@ pub record IsBehind (instance : PlainInstance) (whole : SearchTree) (fs : List F
 
 abbrev pub IsAtPlace : PlainInstance → SearchTree → List Frame → List Exclusion → List PlainToken → ℕ → Place → Type 0
 IsAtPlace instance whole fs es tokens count (Met kind) = IsAtNode instance whole fs es tokens count kind
-IsAtPlace instance whole fs es tokens count (Over size) = IsBehind instance whole fs es tokens count size
+IsAtPlace instance whole fs es tokens count (Over size) = IsAfterSubtree instance whole fs es tokens count size
 
 -- how many turns a way may still take without a further count
 abbrev pub frame_turns : Option Size → ℕ

@@ -1,7 +1,7 @@
 //! Decisions of instances with the same boxes, one after another in the same memory.
 ghost use Rattle.std.specs.Prelude.{◌≡◌, ◌≤◌, ◌+◌, ◌-◌, ◌*◌, ◌/◌, ◌^◌, IfOk, []};
 ghost use Rattle.packing_terms.specs.Packing.{dims, box_count};
-ghost use Rattle.tree_terms.specs.Trees.{outcome, told};
+ghost use Rattle.tree_terms.specs.Trees.{outcome, under_budget};
 ghost use Rattle.tree_terms.specs.ClassTree.{class_tree};
 ghost use Rattle.work_share.specs.Outcomes.{plain_outcome};
 ghost use Rattle.class_search.specs.Deciders.{decider_of};
@@ -72,7 +72,7 @@ impl Decider {
         requires { self.old ≡ decider_of instance.now }
         ensures same { self.new ≡ self.old }
         ensures outcome { IfOk result
-            (λ r. plain_outcome r ≡ told budget (outcome (class_tree instance.now [] scales))) }
+            (λ r. plain_outcome r ≡ under_budget budget (outcome (class_tree instance.now [] scales))) }
         ensures right { IfOk result (λ r. IsRight instance.now [] (plain_outcome r)) }
         ensures decides { IfOk result (λ r. Decides instance.now (plain_outcome r)) }
         ensures enough { 3 ^ (dims instance.now * box_count instance.now

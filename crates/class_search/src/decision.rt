@@ -1,7 +1,7 @@
 //! The decision of one instance.
 ghost use Rattle.std.specs.Prelude.{◌≡◌, ◌≤◌, ◌+◌, ◌-◌, ◌*◌, ◌/◌, ◌^◌, IfOk, []};
 ghost use Rattle.packing_terms.specs.Packing.{dims, box_count};
-ghost use Rattle.tree_terms.specs.Trees.{outcome, told};
+ghost use Rattle.tree_terms.specs.Trees.{outcome, under_budget};
 ghost use Rattle.tree_terms.specs.ClassTree.{class_tree};
 ghost use Rattle.work_share.specs.Outcomes.{plain_outcome};
 ghost use Rattle.class_search.specs.Right.{IsRight, Decides, IsYesOrNo};
@@ -29,7 +29,7 @@ pub fn decide_alone(
     scales: bool,
 ) -> Result<Outcome, NoMemory>
     ensures outcome { IfOk result
-        (λ r. plain_outcome r ≡ told budget (outcome (class_tree instance.now [] scales))) }
+        (λ r. plain_outcome r ≡ under_budget budget (outcome (class_tree instance.now [] scales))) }
     ensures right { IfOk result (λ r. IsRight instance.now [] (plain_outcome r)) }
     ensures decides { IfOk result (λ r. Decides instance.now (plain_outcome r)) }
     ensures enough { 3 ^ (dims instance.now * box_count instance.now
@@ -58,7 +58,7 @@ pub fn decide_in(
     ensures sizes { state.new ≡ record state.old { trail = state.new.trail } }
     ensures closer { closer.new ≡ closer.old }
     ensures outcome { IfOk result
-        (λ r. plain_outcome r ≡ told budget (outcome (class_tree instance.now [] scales))) }
+        (λ r. plain_outcome r ≡ under_budget budget (outcome (class_tree instance.now [] scales))) }
     ensures right { IfOk result (λ r. IsRight instance.now [] (plain_outcome r)) }
 {
     // For the proof alone: tells the limits of the instance.
@@ -78,7 +78,7 @@ pub fn decide<R: Threads + Wait + Sync, G: Gate + Sync>(
     gate: &G,
 ) -> Result<Outcome, NoMemory>
     ensures outcome { IfOk result
-        (λ r. plain_outcome r ≡ told settings.now.budget
+        (λ r. plain_outcome r ≡ under_budget settings.now.budget
         (outcome (class_tree instance.now [] settings.now.scales))) }
     ensures right { IfOk result (λ r. IsRight instance.now [] (plain_outcome r)) }
     ensures decides { IfOk result (λ r. Decides instance.now (plain_outcome r)) }

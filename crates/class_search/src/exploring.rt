@@ -4,7 +4,7 @@ ghost use Rattle.packing_terms.specs.Packing.{dims, box_count};
 ghost use Rattle.packing_terms.specs.Limits.{IsInternalInstance};
 ghost use Rattle.packing_terms.specs.Rank.{ranked_pairs};
 ghost use Rattle.proof_tree.specs.Plain.{plain_token};
-ghost use Rattle.tree_terms.specs.Trees.{outcome, told, Decided, No};
+ghost use Rattle.tree_terms.specs.Trees.{outcome, under_budget, Decided, No};
 ghost use Rattle.tree_terms.specs.ClassTree.{class_tree};
 ghost use Rattle.work_share.specs.Outcomes.{plain_outcome};
 ghost use Rattle.class_search.specs.Rooted.{arrival_tree, IsKnownArrival};
@@ -13,10 +13,10 @@ use crate::rank::ranked_pairs;
 use crate::root::{Arrival, RootTest, test_root, visit_class_root};
 use crate::search::Search;
 use crate::visit::next_kind;
-use crate::walk::{End, Walk, go_on};
+use crate::walk::{End, Walk, resume_walk};
 use box_instances::{Instance, NoMemory};
 use edge_state::EdgeState;
-use proof_tree::{Outcome, Token, TokenList};
+use proof_tree::{CompactTokens, Outcome, Token};
 use rule_closure::Closer;
 use std::alloc::Global;
 
@@ -24,7 +24,7 @@ use std::alloc::Global;
 fn leaf(alloc: Global, token: Token) -> Result<Outcome, NoMemory>
     ensures { IfOk result (λ r. plain_outcome r ≡ Decided (No (plain_token token ∷ []) 0)) }
 {
-    let tokens = TokenList::of_one(alloc, token)?;
+    let tokens = CompactTokens::of_one(alloc, token)?;
     Ok(Outcome::No { tokens, count: 0 })
 }
 
@@ -46,14 +46,14 @@ pub(crate) fn explored(
     ensures sizes { state.new ≡ record state.old { trail = state.new.trail } }
     ensures closer { closer.new ≡ closer.old }
     ensures outcome { IfOk result
-        (λ r. plain_outcome r ≡ told cap (outcome
+        (λ r. plain_outcome r ≡ under_budget cap (outcome
         (arrival_tree search.now.instance.now state.old.trail arrival))) }
 {
     match arrival {
         Arrival::RefutedRoot(token) => leaf(search.alloc, token),
         Arrival::Inner(node) => {
             let walk = Walk::at(search.alloc, node);
-            match go_on(search, state, closer, walk, cap)? {
+            match resume_walk(search, state, closer, walk, cap)? {
                 End::Whole(outcome) => Ok(outcome),
                 End::Stopped(_) => Ok(Outcome::Past),
             }
@@ -78,7 +78,7 @@ pub(crate) fn searched(
     ensures sizes { state.new ≡ record state.old { trail = state.new.trail } }
     ensures closer { closer.new ≡ closer.old }
     ensures outcome { IfOk result
-        (λ r. plain_outcome r ≡ told budget (outcome
+        (λ r. plain_outcome r ≡ under_budget budget (outcome
         (class_tree search.now.instance.now [] scales))) }
 {
     let arrival = visit_class_root(search, scales, state, closer);
@@ -103,7 +103,7 @@ pub(crate) fn searched_alone(
     ensures sizes { state.new ≡ record state.old { trail = state.new.trail } }
     ensures closer { closer.new ≡ closer.old }
     ensures outcome { IfOk result
-        (λ r. plain_outcome r ≡ told budget (outcome (class_tree instance.now [] scales))) }
+        (λ r. plain_outcome r ≡ under_budget budget (outcome (class_tree instance.now [] scales))) }
 {
     match test_root(alloc, instance, scales, state, closer) {
         RootTest::Refuted(token) => leaf(alloc, token),

@@ -1,7 +1,7 @@
 //! The class tree with walks that were left where their cap was spent, and with their splits.
 ghost use Rattle.std.specs.Prelude.{◌≡◌, ◌++◌, ◌∷◌, [], IfOk, IfSome, IsSome, MatchBool, Some};
-ghost use Rattle.tree_terms.specs.Trees.{node_at, outcome, told};
-ghost use Rattle.tree_terms.specs.Paths.{node_told, outcome_at, IsReachable};
+ghost use Rattle.tree_terms.specs.Trees.{node_at, outcome, under_budget};
+ghost use Rattle.tree_terms.specs.Paths.{node_view, outcome_at, IsReachable};
 ghost use Rattle.work_share.specs.Outcomes.{plain_outcome};
 ghost use Rattle.work_share.specs.Nodes.{plain_node};
 ghost use Rattle.class_search.specs.Kept.{IsKeptAt, ArePartsOf, IsWalkOf};
@@ -9,7 +9,7 @@ ghost use Rattle.class_search.specs.Pieces.{IsSplitAt};
 ghost use Rattle.class_search.specs.Tree.{shape, same_trees};
 
 use crate::ClassTree;
-use crate::kept::{Division, Explored, Kept, Parts, Standing};
+use crate::kept::{Division, Explored, Kept, PausedWalk, WalkSplit};
 use box_instances::NoMemory;
 use proof_tree::Outcome;
 use std::alloc::{AllocError, Global};
@@ -140,13 +140,13 @@ impl<'a> KnownSplit<'a> {
 // use by another thread, or there is no memory for an entry, the walk is lost and its node is begun
 // anew.
 #[derive(Drop)]
-pub(crate) struct KeepingTree<'a> {
+pub(crate) struct ResumableTree<'a> {
     tree: &'a ClassTree<'a>,
     room: Mutex<Vec<Piece<'a>>>,
     splits: Mutex<Vec<KnownSplit<'a>>>,
 }
 
-impl<'a> Model for KeepingTree<'a> {
+impl<'a> Model for ResumableTree<'a> {
     ghost use Rattle.class_search.specs.Tree.{PlainClassTree};
 
     ghost Value = { PlainClassTree };
@@ -156,12 +156,12 @@ impl<'a> Model for KeepingTree<'a> {
 
 // How often a room in use is tried again. It is in use for a look through its pieces, which is
 // shorter than so many tries.
-const MOST_TRIES: u32 = 10_000;
+const MAX_LOCK_TRIES: u32 = 10_000;
 
-// Tries to lock a list, at most `MOST_TRIES` times. It never blocks, because `Tree::explore` has no
+// Tries to lock a list, at most `MAX_LOCK_TRIES` times. It never blocks, because `Tree::explore` has no
 // runtime handle with `Wait`.
-fn entered<'b, T>(room: &'b Mutex<Vec<T>>) -> Option<MutexGuard<'b, Vec<T>>> {
-    for _ in 0..MOST_TRIES {
+fn try_lock_pieces<'b, T>(room: &'b Mutex<Vec<T>>) -> Option<MutexGuard<'b, Vec<T>>> {
+    for _ in 0..MAX_LOCK_TRIES {
         if let Some(guard) = room.try_lock() {
             return Some(guard);
         }
@@ -172,7 +172,7 @@ fn entered<'b, T>(room: &'b Mutex<Vec<T>>) -> Option<MutexGuard<'b, Vec<T>>> {
 
 // Takes a piece of the node at this path out of the room, if one is there.
 fn taken<'a>(room: &Mutex<Vec<Piece<'a>>>, path: &[u32]) -> Option<Piece<'a>> {
-    let mut room = entered(room)?;
+    let mut room = try_lock_pieces(room)?;
     let pieces = &mut *room;
     let position = pieces.iter().position(|piece| piece.is_at(path))?;
     Some(pieces.swap_remove(position))
@@ -180,7 +180,7 @@ fn taken<'a>(room: &Mutex<Vec<Piece<'a>>>, path: &[u32]) -> Option<Piece<'a>> {
 
 // Takes the split of the node at this path out of the list, if it is there.
 fn taken_split<'a>(splits: &Mutex<Vec<KnownSplit<'a>>>, path: &[u32]) -> Option<KnownSplit<'a>> {
-    let mut splits = entered(splits)?;
+    let mut splits = try_lock_pieces(splits)?;
     let known = &mut *splits;
     let position = known.iter().position(|split| split.is_at(path))?;
     Some(known.swap_remove(position))
@@ -191,7 +191,7 @@ fn put_split<'a>(
     splits: &Mutex<Vec<KnownSplit<'a>>>,
     split: KnownSplit<'a>,
 ) -> Result<(), AllocError> {
-    match entered(splits) {
+    match try_lock_pieces(splits) {
         Some(mut splits) => {
             let known = &mut *splits;
             known.push(split)?;
@@ -203,7 +203,7 @@ fn put_split<'a>(
 
 // Puts pieces into the room, unless it is in use.
 fn put<'a>(room: &Mutex<Vec<Piece<'a>>>, mut pieces: Vec<Piece<'a>>) -> Result<(), AllocError> {
-    match entered(room) {
+    match try_lock_pieces(room) {
         Some(mut room) => {
             let kept = &mut *room;
             kept.append(&mut pieces)
@@ -217,7 +217,7 @@ fn pieces_of<'a>(
     alloc: Global,
     tree: &'a ClassTree<'a>,
     path: &[u32],
-    parts: Parts<'a>,
+    parts: WalkSplit<'a>,
 ) -> Result<Vec<Piece<'a>>, AllocError>
     requires known { IfSome (node_at (Some (shape tree.now)) path.now)
         (λ node. ArePartsOf tree.now.instance node parts) }
@@ -225,23 +225,23 @@ fn pieces_of<'a>(
 {
     let mut pieces = Vec::with_capacity(alloc, 2)?;
     match parts {
-        Parts::First(standing) => {
-            pieces.push(Piece::of_child(alloc, tree, path, 0, Kept::Standing(standing))?)?;
+        WalkSplit::First(standing) => {
+            pieces.push(Piece::of_child(alloc, tree, path, 0, Kept::PausedWalk(standing))?)?;
         }
-        Parts::Second(refuted, standing) => {
+        WalkSplit::Second(refuted, standing) => {
             pieces.push(Piece::of_child(alloc, tree, path, 0, Kept::Refuted(refuted))?)?;
-            pieces.push(Piece::of_child(alloc, tree, path, 1, Kept::Standing(standing))?)?;
+            pieces.push(Piece::of_child(alloc, tree, path, 1, Kept::PausedWalk(standing))?)?;
         }
     }
     Ok(pieces)
 }
 
-impl<'a> KeepingTree<'a> {
+impl<'a> ResumableTree<'a> {
     // The tree with an empty room.
-    pub fn new(alloc: Global, tree: &'a ClassTree<'a>) -> KeepingTree<'a>
+    pub fn new(alloc: Global, tree: &'a ClassTree<'a>) -> ResumableTree<'a>
         ensures { result ≡ tree.entry.now }
     {
-        KeepingTree {
+        ResumableTree {
             tree,
             room: Mutex::new(Vec::new(alloc)),
             splits: Mutex::new(Vec::new(alloc)),
@@ -253,7 +253,7 @@ impl<'a> KeepingTree<'a> {
         &self,
         alloc: Global,
         path: &[u32],
-        left: Option<Standing<'a>>,
+        left: Option<PausedWalk<'a>>,
     ) -> Result<(), AllocError>
         requires there { IsSome (node_at (Some (shape self.now)) path.now) }
         requires known { IfSome (node_at (Some (shape self.now)) path.now)
@@ -286,7 +286,7 @@ impl<'a> KeepingTree<'a> {
     }
 }
 
-impl<'a> Tree for KeepingTree<'a> {
+impl<'a> Tree for ResumableTree<'a> {
     ghost shape = { shape };
 
     ghost AreSame = { λ t u. t ≡ u };
@@ -294,7 +294,7 @@ impl<'a> Tree for KeepingTree<'a> {
     fn explore(&self, alloc: Global, path: &[u32], cap: u64) -> Result<Outcome, NoMemory>
         requires { IsReachable (shape self.now) path.now }
         ensures { IfOk result (λ r. IfSome (outcome_at (shape self.now) path.now)
-            (λ v. plain_outcome r ≡ told cap v)) }
+            (λ v. plain_outcome r ≡ under_budget cap v)) }
     {
         let kept = self.kept_at(alloc, path)?;
         let Explored { outcome, left } = self.tree.explored_on(alloc, path, kept, cap)?;
@@ -306,7 +306,7 @@ impl<'a> Tree for KeepingTree<'a> {
     fn node(&self, alloc: Global, path: &[u32]) -> Result<Node, NoMemory>
         requires { IsReachable (shape self.now) path.now }
         ensures { IfOk result (λ r. IfSome (node_at (Some (shape self.now)) path.now)
-            (λ node. plain_node r ≡ node_told node)) }
+            (λ node. plain_node r ≡ node_view node)) }
     {
         if let Some(split) = taken_split(&self.splits, path) {
             if let Some(node) = split.node_of(self.tree, path) {
@@ -343,12 +343,12 @@ impl<'a> ClassTree<'a> {
         gate: &G,
     ) -> Result<Outcome, NoMemory>
         ensures { IfOk result
-            (λ r. plain_outcome r ≡ told settings.now.budget (outcome (shape self.now))) }
+            (λ r. plain_outcome r ≡ under_budget settings.now.budget (outcome (shape self.now))) }
     {
         if settings.workers <= 1 {
             return solve_shared(rt, alloc, self, settings, gate);
         }
-        let keeping = KeepingTree::new(alloc, self);
+        let keeping = ResumableTree::new(alloc, self);
         solve_shared(rt, alloc, &keeping, settings, gate)
     }
 }

@@ -1,23 +1,23 @@
 //! Walks that are kept where their cap was spent, and what becomes of them as their node is split.
 ghost use Rattle.std.specs.Prelude.{◌≡◌, IfOk, IfSome};
 ghost use Rattle.packing_terms.specs.Rank.{ranked_pairs};
-ghost use Rattle.tree_terms.specs.Trees.{SearchTree, No, outcome, told};
+ghost use Rattle.tree_terms.specs.Trees.{SearchTree, No, outcome, under_budget};
 ghost use Rattle.work_share.specs.Outcomes.{plain_outcome};
-ghost use Rattle.class_search.specs.Kept.{IsStanding, standing_tree, IsKeptOf, IsDivisionOf, IsExplored};
+ghost use Rattle.class_search.specs.Kept.{IsPausedWalk, standing_tree, IsKeptOf, IsDivisionOf, IsExplored};
 
 use crate::search::Search;
 use crate::visit::NodeKind;
-use crate::walk::{End, Walk, go_on, told};
+use crate::walk::{End, Walk, resume_walk, under_budget};
 use box_instances::{Instance, NoMemory};
 use edge_state::EdgeState;
-use proof_tree::{Outcome, TokenList};
+use proof_tree::{CompactTokens, Outcome};
 use rule_closure::Closer;
 use std::alloc::{AllocError, Global};
 use work_share::Node;
 
 // A walk, with the closed state of the node where it stands.
 #[derive(Drop)]
-pub(crate) struct Standing<'a> {
+pub(crate) struct PausedWalk<'a> {
     pub instance: &'a Instance,
     pub state: EdgeState,
     pub closer: Closer,
@@ -27,7 +27,7 @@ pub(crate) struct Standing<'a> {
 // What a finished node gave: no, with these tokens and this count.
 #[derive(Drop)]
 pub(crate) struct Refuted {
-    pub tokens: TokenList,
+    pub tokens: CompactTokens,
     pub count: u64,
 }
 
@@ -35,15 +35,15 @@ pub(crate) struct Refuted {
 #[derive(Drop)]
 pub(crate) enum Kept<'a> {
     Refuted(Refuted),
-    Standing(Standing<'a>),
+    PausedWalk(PausedWalk<'a>),
 }
 
 // What a walk leaves to the children of its node: it goes on in the first; or the first is
 // finished, and it goes on in the second.
 #[derive(Drop)]
-pub(crate) enum Parts<'a> {
-    First(Standing<'a>),
-    Second(Refuted, Standing<'a>),
+pub(crate) enum WalkSplit<'a> {
+    First(PausedWalk<'a>),
+    Second(Refuted, PausedWalk<'a>),
 }
 
 // What a walk leaves where it has gone on to a child: the split of its node, and what is left to the
@@ -51,17 +51,17 @@ pub(crate) enum Parts<'a> {
 #[derive(Drop)]
 pub(crate) struct Division<'a> {
     pub node: Node,
-    pub parts: Parts<'a>,
+    pub parts: WalkSplit<'a>,
 }
 
 // What exploring gives: what is told, and the walk where the cap was spent.
 #[derive(Drop)]
 pub(crate) struct Explored<'a> {
     pub outcome: Outcome,
-    pub left: Option<Standing<'a>>,
+    pub left: Option<PausedWalk<'a>>,
 }
 
-impl<'a> Standing<'a> {
+impl<'a> PausedWalk<'a> {
     // Goes on under a cap.
     fn explored(
         self,
@@ -70,12 +70,12 @@ impl<'a> Standing<'a> {
         cap: u64,
     ) -> Result<Explored<'a>, NoMemory>
         requires pairs { pairs.now ≡ ranked_pairs self.instance.now }
-        requires known { IsStanding self }
+        requires known { IsPausedWalk self }
         ensures { IfOk result (IsExplored self.entry.instance.now (standing_tree self.entry) cap) }
     {
         // For the proof alone: tells the limits of the instance.
         let _limits = self.instance.len();
-        let Standing {
+        let PausedWalk {
             instance,
             mut state,
             mut closer,
@@ -92,14 +92,14 @@ impl<'a> Standing<'a> {
             instance,
             pairs,
         };
-        match go_on(&search, &mut state, &mut closer, walk, cap)? {
+        match resume_walk(&search, &mut state, &mut closer, walk, cap)? {
             End::Whole(outcome) => Ok(Explored {
                 outcome,
                 left: None,
             }),
             End::Stopped(walk) => Ok(Explored {
                 outcome: Outcome::Past,
-                left: Some(Standing {
+                left: Some(PausedWalk {
                     instance,
                     state,
                     closer,
@@ -111,13 +111,13 @@ impl<'a> Standing<'a> {
 
     // The split of its node and what it leaves to the children, if it has gone on to one.
     pub fn division(self) -> Result<Option<Division<'a>>, AllocError>
-        requires { IsStanding self }
+        requires { IsPausedWalk self }
         ensures { IfOk result
             (λ r. IfSome r (IsDivisionOf self.entry.instance.now (standing_tree self.entry))) }
     {
         // For the proof alone: tells the limits of the instance.
         let _limits = self.instance.len();
-        let Standing {
+        let PausedWalk {
             instance,
             state,
             closer,
@@ -134,7 +134,7 @@ impl<'a> Standing<'a> {
         });
         let Some(size) = split.first else {
             walk.count -= 1;
-            let standing = Standing {
+            let standing = PausedWalk {
                 instance,
                 state,
                 closer,
@@ -142,7 +142,7 @@ impl<'a> Standing<'a> {
             };
             return Ok(Some(Division {
                 node,
-                parts: Parts::First(standing),
+                parts: WalkSplit::First(standing),
             }));
         };
         let Walk {
@@ -164,7 +164,7 @@ impl<'a> Standing<'a> {
             tokens,
             count: size.count,
         };
-        let standing = Standing {
+        let standing = PausedWalk {
             instance,
             state,
             closer,
@@ -172,7 +172,7 @@ impl<'a> Standing<'a> {
         };
         Ok(Some(Division {
             node,
-            parts: Parts::Second(refuted, standing),
+            parts: WalkSplit::Second(refuted, standing),
         }))
     }
 }
@@ -182,7 +182,7 @@ impl Refuted {
     fn told(self, cap: u64) -> Outcome
         ensures { (tree : SearchTree)
             → outcome tree ≡ No self.tokens self.count
-            → plain_outcome result ≡ told cap (outcome tree) }
+            → plain_outcome result ≡ under_budget cap (outcome tree) }
     {
         let Refuted { tokens, count } = self;
         if count > cap {
@@ -205,7 +205,7 @@ impl<'a> Kept<'a> {
                 outcome: refuted.told(cap),
                 left: None,
             }),
-            Kept::Standing(standing) => standing.explored(search.alloc, search.pairs, cap),
+            Kept::PausedWalk(standing) => standing.explored(search.alloc, search.pairs, cap),
         }
     }
 }

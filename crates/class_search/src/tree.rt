@@ -2,8 +2,8 @@
 ghost use Rattle.std.specs.Prelude.{◌≡◌, ◌+◌, ◌-◌, ◌*◌, ◌/◌, ◌^◌, ◌≤◌, IfOk, IfSome, IsSome, MatchBool, Some, []};
 ghost use Rattle.packing_terms.specs.Packing.{dims, box_count};
 ghost use Rattle.packing_terms.specs.Exclusions.{AreAtEdges};
-ghost use Rattle.tree_terms.specs.Trees.{outcome, told, node_at};
-ghost use Rattle.tree_terms.specs.Paths.{exclusions_at, node_told, outcome_at, IsReachable};
+ghost use Rattle.tree_terms.specs.Trees.{outcome, under_budget, node_at};
+ghost use Rattle.tree_terms.specs.Paths.{exclusions_at, node_view, outcome_at, IsReachable};
 ghost use Rattle.work_share.specs.Outcomes.{plain_outcome};
 ghost use Rattle.work_share.specs.Nodes.{plain_node};
 ghost use Rattle.class_search.specs.Splits.{with_all};
@@ -13,16 +13,16 @@ ghost use Rattle.class_search.specs.Tree.{shape, same_trees};
 ghost use Rattle.class_search.specs.Kept.{IsKeptAt, IsExplored};
 
 use crate::exploring::explored;
-use crate::kept::{Explored, Kept, Refuted, Standing};
+use crate::kept::{Explored, Kept, PausedWalk, Refuted};
 use crate::rank::ranked_pairs;
 use crate::root::{Arrival, visit_class_root};
 use crate::same::{are_same_exclusions, are_same_instances};
 use crate::search::Search;
 use crate::visit::visit_root;
-use crate::walk::{Walk, descend, told};
+use crate::walk::{Walk, descend, under_budget};
 use box_instances::{Instance, NoMemory};
 use edge_state::{EdgeState, Exclusion};
-use proof_tree::{Outcome, TokenList};
+use proof_tree::{CompactTokens, Outcome};
 use rule_closure::Closer;
 use std::alloc::Global;
 use std::marker::Model;
@@ -161,10 +161,10 @@ impl<'a> ClassTree<'a> {
         let mut closer = Closer::new(alloc, self.instance.dims(), self.instance.len())?;
         match self.come_to(alloc, &mut state, &mut closer, path) {
             Arrival::RefutedRoot(token) => {
-                let tokens = TokenList::of_one(alloc, token)?;
+                let tokens = CompactTokens::of_one(alloc, token)?;
                 Ok(Kept::Refuted(Refuted { tokens, count: 0 }))
             }
-            Arrival::Inner(node) => Ok(Kept::Standing(Standing {
+            Arrival::Inner(node) => Ok(Kept::PausedWalk(PausedWalk {
                 instance: self.instance,
                 state,
                 closer,
@@ -197,7 +197,7 @@ impl<'a> ClassTree<'a> {
     fn explore_node(&self, alloc: Global, path: &[u32], cap: u64) -> Result<Outcome, NoMemory>
         requires { IsSome (node_at (Some (shape self.now)) path.now) }
         ensures { IfOk result (λ r. IfSome (node_at (Some (shape self.now)) path.now)
-            (λ node. plain_outcome r ≡ told cap (outcome node))) }
+            (λ node. plain_outcome r ≡ under_budget cap (outcome node))) }
     {
         let mut state = self.start_state(alloc)?;
         let mut closer = Closer::new(alloc, self.instance.dims(), self.instance.len())?;
@@ -228,7 +228,7 @@ impl<'a> Tree for ClassTree<'a> {
         requires { IsReachable (shape self.now) path.now }
         ensures outcome { IfOk result
             (λ r. IfSome (outcome_at (shape self.now) path.now)
-            (λ v. plain_outcome r ≡ told cap v)) }
+            (λ v. plain_outcome r ≡ under_budget cap v)) }
         ensures right { IfOk result
             (λ r. IsRight self.now.instance (exclusions_at self.now.start (shape self.now) path.now)
             (plain_outcome r)) }
@@ -249,7 +249,7 @@ impl<'a> Tree for ClassTree<'a> {
     fn node(&self, alloc: Global, path: &[u32]) -> Result<Node, NoMemory>
         requires { IsReachable (shape self.now) path.now }
         ensures { IfOk result (λ r. IfSome (node_at (Some (shape self.now)) path.now)
-            (λ node. plain_node r ≡ node_told node)) }
+            (λ node. plain_node r ≡ node_view node)) }
     {
         let mut state = self.start_state(alloc)?;
         let mut closer = Closer::new(alloc, self.instance.dims(), self.instance.len())?;

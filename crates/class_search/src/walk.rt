@@ -7,7 +7,7 @@ ghost use Rattle.packing_terms.specs.Limits.{IsInternalInstance};
 ghost use Rattle.packing_terms.specs.Scales.{SidesFit};
 ghost use Rattle.packing_terms.specs.Rank.{ranked_pairs};
 ghost use Rattle.tree_terms.specs.Trees.{node_at};
-ghost use Rattle.tree_terms.specs.Paths.{node_told};
+ghost use Rattle.tree_terms.specs.Paths.{node_view};
 ghost use Rattle.work_share.specs.Nodes.{plain_node};
 ghost use Rattle.class_search.specs.Visits.{kind_tree, IsKind, IsAmong, IsMet, IsDivided};
 ghost use Rattle.class_search.specs.Splits.{added, with_all};
@@ -19,7 +19,7 @@ use crate::splits::{Child, Split};
 use crate::visit::{NodeKind, visit_child};
 use box_instances::NoMemory;
 use edge_state::{EdgeState, Mark};
-use proof_tree::{Outcome, Token, TokenList};
+use proof_tree::{CompactTokens, Outcome, Token};
 use rule_closure::Closer;
 use std::alloc::Global;
 use work_share::Node;
@@ -47,7 +47,7 @@ pub(crate) struct Frame {
 #[derive(Drop)]
 pub(crate) struct Walk {
     pub frames: Vec<Frame>,
-    pub tokens: TokenList,
+    pub tokens: CompactTokens,
     pub count: u64,
     pub node: NodeKind,
 }
@@ -77,7 +77,7 @@ impl Walk {
     {
         Walk {
             frames: Vec::new(alloc),
-            tokens: TokenList::new(alloc),
+            tokens: CompactTokens::new(alloc),
             count: 0,
             node,
         }
@@ -110,7 +110,7 @@ fn child_in(frame: &Frame) -> Child
 
 // Goes from a split, whose closed state this is, into the child that comes next, and puts the split
 // on the way.
-fn go_into(
+fn enter_child(
     search: &Search<'_>,
     state: &mut EdgeState,
     closer: &mut Closer,
@@ -139,7 +139,7 @@ fn go_into(
 
 // Goes on with a walk under a cap, depth first. This is the closed state of the node where it
 // stands.
-pub(crate) fn go_on(
+pub(crate) fn resume_walk(
     search: &Search<'_>,
     state: &mut EdgeState,
     closer: &mut Closer,
@@ -198,7 +198,7 @@ pub(crate) fn go_on(
                         rank,
                         first: None,
                     };
-                    let met = go_into(search, state, closer, &mut frames, frame)?;
+                    let met = enter_child(search, state, closer, &mut frames, frame)?;
                     place = Place::Met(met);
                 }
             },
@@ -213,7 +213,7 @@ pub(crate) fn go_on(
                     place = Place::Over(size.behind(first));
                 } else {
                     frame.first = Some(size);
-                    let met = go_into(search, state, closer, &mut frames, frame)?;
+                    let met = enter_child(search, state, closer, &mut frames, frame)?;
                     place = Place::Met(met);
                 }
             }
@@ -261,7 +261,7 @@ pub(crate) fn descend(
 pub(crate) fn told(node: NodeKind) -> Node
     requires { IsAmong 4 128 node }
     ensures { (instance : PlainInstance) (es : List PlainExclusion)
-        → plain_node result ≡ node_told (kind_tree instance es node) }
+        → plain_node result ≡ node_view (kind_tree instance es node) }
 {
     match node {
         NodeKind::Divided { split, rank: _ } => Node::Split {

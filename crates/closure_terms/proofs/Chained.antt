@@ -14,14 +14,14 @@ use Rattle.packing_terms.proofs.Sets.{excludes_symmetric}
 use Rattle.rule_terms.specs.Applied.{Adds, added, mirror_added}
 use Rattle.rule_terms.specs.Runs.{AreHeaviestHeads, AreHeaviestTails}
 use Rattle.rule_terms.proofs.Drawn.{ends_in}
-use Rattle.closure_terms.specs.Work.{IsCovered, IsChainIn, IsChained, IsUnordered}
-use Rattle.closure_terms.specs.Passes.{IsShut}
+use Rattle.closure_terms.specs.Work.{IsCovered, IsChainIn, IsChainUpToDate, IsUnordered}
+use Rattle.closure_terms.specs.Passes.{IsChainChecked}
 use Rattle.closure_terms.proofs.Touched.{IsAt, decide_at, only_old, old_adds}
 
 -- what is covered in each instance of CHAIN
 chained_each : (instance : PlainInstance) (i : ℕ) (seen es : List Exclusion)
     → ((before after : List ℕ) (u v : ℕ) → IsCovered instance (excludes seen) es (Chain i before u v after))
-    → IsChained instance i seen es
+    → IsChainUpToDate instance i seen es
 chained_each instance i seen es h = record { covered = go }
   where
     go : (rule : Rule) → IsChainIn i rule → IsCovered instance (excludes seen) es rule
@@ -35,8 +35,8 @@ chained_each instance i seen es h = record { covered = go }
 
 -- what was covered stays so when exclusions come on top
 pub chained_grown : (instance : PlainInstance) (i : ℕ) (seen old new : List Exclusion)
-    → IsSubset (excludes old) (excludes new) → IsChained instance i seen old
-    → IsChained instance i seen new
+    → IsSubset (excludes old) (excludes new) → IsChainUpToDate instance i seen old
+    → IsChainUpToDate instance i seen new
 chained_grown instance i seen old new more h =
     record {
       covered = λ rule is. record {
@@ -66,7 +66,7 @@ module _ (e : Exclusion) (seen old : List Exclusion) (i : ℕ) (within : IsSubse
 -- An exclusion that orders no pair of the dimension lets CHAIN add nothing there.
 pub chained_next : (instance : PlainInstance) (e : Exclusion) (seen old new : List Exclusion) (i : ℕ)
     → IsSubset (excludes (e ∷ seen)) (excludes old)
-    → (e.dim ≡ i → IsUnordered (excludes old) e) → IsChained instance i seen new → IsChained instance i (e ∷ seen) new
+    → (e.dim ≡ i → IsUnordered (excludes old) e) → IsChainUpToDate instance i seen new → IsChainUpToDate instance i (e ∷ seen) new
 chained_next instance e seen old new i within free h =
     chained_each instance i (e ∷ seen) new (λ before after u v. record {
       holds = λ j a b r add. (h.covered (Chain i before u v after) refl).holds j a b r
@@ -81,7 +81,7 @@ chained_next instance e seen old new i within free h =
 -- With nothing excluded chains are single boxes, so CHAIN adds what PAIR adds.
 pub chained_first : (instance : PlainInstance) (i : ℕ) (es : List Exclusion)
     → ((j u v : ℕ) → IsRuleInstance instance (Pair j u v) → IsCovered instance (excludes []) es (Pair j u v))
-    → IsChained instance i [] es
+    → IsChainUpToDate instance i [] es
 chained_first instance i es pairs =
     chained_each instance i [] es (λ before after u v.
     record { holds = λ j a b r add. at before after u v j a b r add })
@@ -107,8 +107,8 @@ chained_first instance i es pairs =
 -- With the weights of heaviest chains, CHAIN adds nothing where no two that don't fit are before one another.
 pub chained_heaviest : (instance : PlainInstance) (i : ℕ) (old new : List Exclusion) (head tail : List ℕ)
     → AreHeaviestHeads instance (excludes old) i head → AreHeaviestTails instance (excludes old) i tail
-    → ((u : ℕ) → u < box_count instance → (v : ℕ) → v < box_count instance → IsShut instance i head tail u v new)
-    → IsChained instance i old new
+    → ((u : ℕ) → u < box_count instance → (v : ℕ) → v < box_count instance → IsChainChecked instance i head tail u v new)
+    → IsChainUpToDate instance i old new
 chained_heaviest instance i old new head tail heads tails done =
     chained_each instance i old new
     (λ before after u v. record { holds = λ j a b r add. at before after u v j a b r add })

@@ -5,7 +5,7 @@ use Rattle.packing_terms.specs.Packing.{PlainInstance}
 use Rattle.packing_terms.specs.Exclusions.{excludes}
 use Rattle.packing_terms.specs.Rules.{Rule, Pair, Apart, Triple, Chain, Compose, Cycle, Order, IsRuleInstance}
 use Rattle.edge_state.specs.Edges.{PlainEdges}
-use Rattle.closure_terms.specs.Work.{IsDueAt, IsWorked}
+use Rattle.closure_terms.specs.Work.{IsDueAt, HasApplied}
 use Rattle.closure_terms.specs.Instances.{DueAll}
 use Rattle.closure_terms.proofs.Worked.{covered_if}
 
@@ -29,12 +29,12 @@ in_due instance fresh j p q (Order i a b c d) (e, inr (inr (h, new))) is =
     inr (new, (b, is.1.2.0, (c, is.1.2.2.0, rw (e, h.0, h.1) refl)))
 
 pub worked_reached : (instance : PlainInstance) (a b : PlainEdges) (lost : Bool) (fresh : Rel → Bool)
-    (j p q : ℕ) → IsWorked instance a b lost (DueAll instance fresh j p q)
-    → IsWorked instance a b lost (IsDueAt fresh j p q)
+    (j p q : ℕ) → HasApplied instance a b lost (DueAll instance fresh j p q)
+    → HasApplied instance a b lost (IsDueAt fresh j p q)
 worked_reached instance a b lost fresh j p q h = record {
   same_dims = h.same_dims;
   same_boxes = h.same_boxes;
-  same_room = h.same_room;
+  same_box_capacity = h.same_box_capacity;
   extends = h.extends;
   empty = h.empty;
   done = λ e rule r. covered_if instance (excludes a.trail) b.trail rule

@@ -17,10 +17,10 @@ use Rattle.edge_state.specs.Edges.{PlainEdges, oldest}
 use Rattle.edge_state.specs.Answers.{IsChangeAfter}
 use Rattle.edge_state.proofs.RowBits.{members_fewer}
 use Rattle.closure_terms.specs.States.{HasRelationLeft}
-use Rattle.closure_terms.specs.Work.{IsChainIn, IsDue, IsWorked, IsChained, IsUnordered, IsBehind}
+use Rattle.closure_terms.specs.Work.{IsChainIn, IsDue, HasApplied, IsChainUpToDate, IsUnordered, IsNextMark}
 use Rattle.closure_terms.proofs.Chained.{chained_grown}
 use Rattle.closure_terms.proofs.Settled.{settled_step, chained_step, settled_after, chained_after}
-use Rattle.closure_terms.specs.Work.{IsLookedThrough}
+use Rattle.closure_terms.specs.Work.{IsWorklistDone}
 
 -- a mask that overlaps, or has before and after, orders nothing
 pub unordered : (es : List Exclusion) (e : Exclusion) (m : ℕ) (o b a : Bool)
@@ -48,14 +48,14 @@ pub looked_step : (instance : PlainInstance) (s t : PlainEdges) (e : Exclusion) 
     (dirty more : List ℕ)
     → IsEdge instance e.dim e.u e.v
     → HasRelationLeft instance (excludes s.trail) e.dim e.u e.v
-    → IsWorked instance s t false (λ rule. HasNoEmptyMask instance (excludes s.trail)
+    → HasApplied instance s t false (λ rule. HasNoEmptyMask instance (excludes s.trail)
     × IsDue fresh e.dim e.u e.v rule)
-    → IsChangeAfter s.trail mark e (mark + 1) → IsBehind s.trail mark e fresh next
+    → IsChangeAfter s.trail mark e (mark + 1) → IsNextMark s.trail mark e fresh next
     → ((i : ℕ) → row_has more i ≡ false → row_has dirty i ≡ false)
     → ((i : ℕ) → row_has more i ≡ false → e.dim ≡ i → IsUnordered (excludes s.trail) e)
     → ((i : ℕ) → row_has more i ≡ true → (i ≡ e.dim) ⊎ (row_has dirty i ≡ true))
-    → IsLookedThrough instance (oldest mark s.trail) s.trail dirty
-    → IsLookedThrough instance (oldest next t.trail) t.trail more
+    → IsWorklistDone instance (oldest mark s.trail) s.trail dirty
+    → IsWorklistDone instance (oldest next t.trail) t.trail more
 looked_step instance s t e fresh mark next dirty more edge left work change behind clean free within looked = record {
   settled = settled_step instance s t e edge left fresh work mark next looked.settled change behind;
   chained = λ i h off. chained_step instance s t e edge left fresh work i mark next (free i off)
@@ -69,10 +69,10 @@ looked_step instance s t e fresh mark next dirty more edge left work change behi
 
 -- CHAIN was applied in one dimension, on top of what was looked through
 pub looked_after : (instance : PlainInstance) (s t : PlainEdges) (k dim : ℕ) (dirty less : List ℕ)
-    → IsLookedThrough instance s.trail s.trail dirty
-    → IsWorked instance s t false (IsChainIn dim) → k ≡ length s.trail
+    → IsWorklistDone instance s.trail s.trail dirty
+    → HasApplied instance s t false (IsChainIn dim) → k ≡ length s.trail
     → ((x : ℕ) → row_has less x ≡ row_has dirty x && not (eqb x dim))
-    → IsLookedThrough instance (oldest k t.trail) t.trail less
+    → IsWorklistDone instance (oldest k t.trail) t.trail less
 looked_after instance s t k dim dirty less looked work e one = record {
   settled = settled_after instance s.trail t.trail k work.extends e looked.settled;
   chained = λ i h off. chained_after instance i s.trail t.trail k work.extends e
@@ -85,11 +85,11 @@ looked_after instance s t k dim dirty less looked work e one = record {
     kept true false h f = absurd (true≢false h)
     kept true true h f = absurd (true≢false f)
 
-    here : (i : ℕ) → i ≡ dim → IsChained instance i s.trail t.trail
+    here : (i : ℕ) → i ≡ dim → IsChainUpToDate instance i s.trail t.trail
     here i same = rw same (record { covered = work.done refl })
 
     go : (i : ℕ) → i < dims instance → (row_has dirty i && not (eqb i dim)) ≡ false
-        → (eqb i dim ≡ true) ⊎ (eqb i dim ≡ false) → IsChained instance i s.trail t.trail
+        → (eqb i dim ≡ true) ⊎ (eqb i dim ≡ false) → IsChainUpToDate instance i s.trail t.trail
     go i h off (inl is) = here i (eqb-true i dim is)
     go i h off (inr is) = chained_grown instance i s.trail s.trail t.trail work.extends.kept
         (looked.chained i h (kept (row_has dirty i) (eqb i dim) off is))

@@ -7,7 +7,7 @@ use Rattle.packing_terms.specs.Packing.{PlainInstance}
 use Rattle.packing_terms.specs.Exclusions.{excludes}
 use Rattle.packing_terms.specs.Rules.{Rule}
 use Rattle.edge_state.specs.Edges.{PlainEdges}
-use Rattle.closure_terms.specs.Work.{IsCovered, IsWorked}
+use Rattle.closure_terms.specs.Work.{IsCovered, HasApplied}
 use Rattle.closure_terms.specs.Passes.{IsPass}
 use Rattle.closure_terms.proofs.Passes.{IsKept, pass_then, pass_as}
 use Rattle.closure_terms.proofs.Worked.{worked_none, worked_then, worked_as}
@@ -20,9 +20,9 @@ both_on false b e h = refl
 pub worked_row : (instance : PlainInstance) (a b c : PlainEdges) (lost : Bool) (n y : ℕ) (before after : ℕ → Bool)
     (P : ℕ → Rule → Type 0)
     → ((x : ℕ) → after x ≡ before x && not (eqb x y))
-    → IsWorked instance a b false (λ rule. (x : ℕ) × (x < n) × (before x ≡ false) × P x rule)
-    → IsWorked instance b c lost (P y)
-    → IsWorked instance a c lost (λ rule. (x : ℕ) × (x < n) × (after x ≡ false) × P x rule)
+    → HasApplied instance a b false (λ rule. (x : ℕ) × (x < n) × (before x ≡ false) × P x rule)
+    → HasApplied instance b c lost (P y)
+    → HasApplied instance a c lost (λ rule. (x : ℕ) × (x < n) × (after x ≡ false) × P x rule)
 worked_row instance a b c lost n y before after P less h here =
     worked_as instance a c lost (λ rule. ((x : ℕ) × (x < n) × (before x ≡ false) × P x rule) ⊎ P y rule)
     (λ rule. (x : ℕ) × (x < n) × (after x ≡ false) × P x rule)
@@ -38,7 +38,7 @@ worked_row instance a b c lost n y before after P less h here =
 -- before the first member
 pub worked_rest : (instance : PlainInstance) (s : PlainEdges) (n : ℕ) (row : ℕ → Bool) (P : ℕ → Rule → Type 0)
     → ((x : ℕ) → x < n → row x ≡ false → (rule : Rule) → P x rule → IsCovered instance (excludes s.trail) s.trail rule)
-    → IsWorked instance s s false (λ rule. (x : ℕ) × (x < n) × (row x ≡ false) × P x rule)
+    → HasApplied instance s s false (λ rule. (x : ℕ) × (x < n) × (row x ≡ false) × P x rule)
 worked_rest instance s n row P others =
     worked_none instance s (λ rule. (x : ℕ) × (x < n) × (row x ≡ false) × P x rule)
     (λ rule h. others h.0 h.1 h.2 rule h.3)
@@ -52,8 +52,8 @@ covered_named instance es rule named e h = subst (λ (t : Rule). IsCovered insta
 -- behind the last member
 pub worked_all : (instance : PlainInstance) (a b : PlainEdges) (n : ℕ) (row : ℕ → Bool) (P : ℕ → Rule → Type 0)
     → ((x : ℕ) → row x ≡ false)
-    → IsWorked instance a b false (λ rule. (x : ℕ) × (x < n) × (row x ≡ false) × P x rule)
-    → IsWorked instance a b false (λ rule. (x : ℕ) × (x < n) × P x rule)
+    → HasApplied instance a b false (λ rule. (x : ℕ) × (x < n) × (row x ≡ false) × P x rule)
+    → HasApplied instance a b false (λ rule. (x : ℕ) × (x < n) × P x rule)
 worked_all instance a b n row P none h =
     worked_as instance a b false (λ rule. (x : ℕ) × (x < n) × (row x ≡ false) × P x rule)
     (λ rule. (x : ℕ) × (x < n) × P x rule)
@@ -101,7 +101,7 @@ member_next row before after y P less h here x on off = go (cases_Bool (eqb x y)
 pub none_worked : (instance : PlainInstance) (s : PlainEdges) (n : ℕ) (row : ℕ → Bool) (Q : ℕ → ℕ → Rule)
     → ((x : ℕ) → row x ≡ true → (y : ℕ) → y < n → IsCovered instance (excludes s.trail) s.trail (Q x y))
     → ((x : ℕ) → x < n → row x ≡ false → (y : ℕ) → IsCovered instance (excludes s.trail) s.trail (Q x y))
-    → IsWorked instance s s false (λ rule. (x : ℕ) × (x < n) × ((y : ℕ) × (y < n) × (rule ≡ Q x y)))
+    → HasApplied instance s s false (λ rule. (x : ℕ) × (x < n) × ((y : ℕ) × (y < n) × (rule ≡ Q x y)))
 none_worked instance s n row Q members others =
     worked_none instance s (λ rule. (x : ℕ) × (x < n) × ((y : ℕ) × (y < n) × (rule ≡ Q x y)))
     (λ rule h. covered_named instance s.trail rule (Q h.0 h.2.0) h.2.2 (go h.0 h.2.0 h.1 h.2.1 (cases_Bool (row h.0))))

@@ -12,8 +12,8 @@ use Rattle.rule_terms.proofs.Applied.{extends_refl, extends_trans}
 use Rattle.rule_terms.proofs.ChainsMore.{head_more, tail_more}
 use Rattle.edge_state.specs.Edges.{PlainEdges}
 use Rattle.closure_terms.specs.States.{IsSized}
-use Rattle.closure_terms.specs.Work.{IsChainIn, IsWorked}
-use Rattle.closure_terms.specs.Passes.{IsPass, IsShut}
+use Rattle.closure_terms.specs.Work.{IsChainIn, HasApplied}
+use Rattle.closure_terms.specs.Passes.{IsPass, IsChainChecked}
 use Rattle.closure_terms.proofs.Chained.{chained_heaviest}
 
 -- what is done stays so when exclusions come on top
@@ -25,7 +25,7 @@ pub pass_none : (instance : PlainInstance) (s : PlainEdges) (P : List Exclusion 
 pass_none instance s P p = record {
   same_dims = refl;
   same_boxes = refl;
-  same_room = refl;
+  same_box_capacity = refl;
   extends = extends_refl instance s.trail;
   done = p;
 }
@@ -37,7 +37,7 @@ pub pass_then : (instance : PlainInstance) (a b c : PlainEdges) (P Q : List Excl
 pass_then instance a b c P Q kept h k = record {
   same_dims = k.same_dims ∙ h.same_dims;
   same_boxes = k.same_boxes ∙ h.same_boxes;
-  same_room = k.same_room ∙ h.same_room;
+  same_box_capacity = k.same_box_capacity ∙ h.same_box_capacity;
   extends = extends_trans instance a.trail b.trail c.trail h.extends k.extends;
   done = (kept b.trail c.trail k.extends.kept h.done, k.done);
 }
@@ -49,7 +49,7 @@ pass_as instance a b P Q f h =
     record {
       same_dims = h.same_dims;
       same_boxes = h.same_boxes;
-      same_room = h.same_room;
+      same_box_capacity = h.same_box_capacity;
       extends = h.extends;
       done = f b.trail h.done;
     }
@@ -93,13 +93,13 @@ module _ (instance : PlainInstance) (i : ℕ) where
       → AreTails instance (excludes es) i ks → AreTails instance (excludes fs) i ks
   tails_more es fs ks more h v hv = tail_more instance (excludes es) (excludes fs) more i v (slice_index ks v) (h v hv)
 
-  pub shut_kept : (head tail : List ℕ) (u v : ℕ) → IsKept (IsShut instance i head tail u v)
+  pub shut_kept : (head tail : List ℕ) (u v : ℕ) → IsKept (IsChainChecked instance i head tail u v)
   shut_kept head tail u v es fs more h = record { shut = λ ne wide. more i u v Before (h.shut ne wide) }
 
   -- no chain is too heavy where the heaviest isn't
   pub shut_fits : (head tail : List ℕ) (u v most : ℕ) (es : List Exclusion)
       → slice_index head u + most ≤ container_side instance i
-      → slice_index tail v ≤ most → IsShut instance i head tail u v es
+      → slice_index tail v ≤ most → IsChainChecked instance i head tail u v es
   shut_fits head tail u v most es fit less = record { shut = λ ne heavy. absurd (omega (arith, heavy, fit, less)) }
 
   -- with the weights of heaviest chains a pass over all pairs covers what CHAIN adds
@@ -107,12 +107,12 @@ module _ (instance : PlainInstance) (i : ℕ) where
       → AreHeaviestHeads instance (excludes a.trail) i head
       → AreHeaviestTails instance (excludes a.trail) i tail
       → IsPass instance a b (λ es. (u : ℕ) → u < box_count instance → (v : ℕ) → v < box_count instance
-      → IsShut instance i head tail u v es)
-      → IsWorked instance a b false (IsChainIn i)
+      → IsChainChecked instance i head tail u v es)
+      → HasApplied instance a b false (IsChainIn i)
   worked_heaviest a b head tail heads tails h = record {
     same_dims = h.same_dims;
     same_boxes = h.same_boxes;
-    same_room = h.same_room;
+    same_box_capacity = h.same_box_capacity;
     extends = h.extends;
     empty = λ e. absurd (true≢false (sym e));
     done = λ e. (chained_heaviest instance i a.trail b.trail head tail heads tails h.done).covered;

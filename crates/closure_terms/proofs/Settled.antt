@@ -21,8 +21,8 @@ use Rattle.rule_terms.proofs.Steps.{trail_room, few_open}
 use Rattle.edge_state.specs.Edges.{PlainEdges, oldest}
 use Rattle.edge_state.specs.Answers.{IsChangeAfter}
 use Rattle.closure_terms.specs.States.{HasRelationLeft}
-use Rattle.closure_terms.specs.Work.{IsLocal, IsDue, IsCovered, IsExhausted, IsWorked, IsUpToDate, IsPropagated, IsChained}
-use Rattle.closure_terms.specs.Work.{IsUnordered, IsBehind, behind_one, behind_two}
+use Rattle.closure_terms.specs.Work.{IsLocal, IsDue, IsCovered, IsExhausted, HasApplied, IsUpToDate, IsPropagated, IsChainUpToDate}
+use Rattle.closure_terms.specs.Work.{IsUnordered, IsNextMark, behind_one, behind_two}
 use Rattle.closure_terms.proofs.Touched.{adds_more}
 use Rattle.closure_terms.proofs.Worked.{covered_not}
 use Rattle.closure_terms.proofs.Reached.{settled_due, pair_turned}
@@ -81,7 +81,7 @@ up_to_date instance es h = record { covered = h.covered h.full; full = h.full }
 module _ (instance : PlainInstance) (s t : PlainEdges) (e : Exclusion) (edge : IsEdge instance e.dim e.u e.v)
     (left : HasRelationLeft instance (excludes s.trail) e.dim e.u e.v)
     (fresh : Rel → Bool)
-    (work : IsWorked instance s t false (λ rule. HasNoEmptyMask instance (excludes s.trail)
+    (work : HasApplied instance s t false (λ rule. HasNoEmptyMask instance (excludes s.trail)
     × IsDue fresh e.dim e.u e.v rule)) where
   -- what was looked through after one change more
   seen_next : (mark next : ℕ) (f : Exclusion) → IsChangeAfter s.trail mark f next
@@ -116,23 +116,23 @@ module _ (instance : PlainInstance) (s t : PlainEdges) (e : Exclusion) (edge : I
   chained_one : (i mark next : ℕ) (f : Exclusion) → IsChangeAfter s.trail mark f next → f.dim ≡ e.dim
       → f.u ≡ e.u → f.v ≡ e.v
       → (e.dim ≡ i → IsUnordered (excludes s.trail) e)
-      → IsChained instance i (oldest mark s.trail) t.trail → IsChained instance i (oldest next t.trail) t.trail
+      → IsChainUpToDate instance i (oldest mark s.trail) t.trail → IsChainUpToDate instance i (oldest next t.trail) t.trail
   chained_one i mark next f change d u v free chained =
-      subst (λ (l : List Exclusion). IsChained instance i l t.trail) (sym (seen_next mark next f change))
+      subst (λ (l : List Exclusion). IsChainUpToDate instance i l t.trail) (sym (seen_next mark next f change))
       (chained_next instance f (oldest mark s.trail) s.trail t.trail i (seen_within mark next f change)
       (λ is. let h = free (sym d ∙ is) in record { forth = rw (d, u, v) h.forth; back = rw (d, u, v) h.back }) chained)
 
   -- all changes at the edge that stand together
   pub settled_step : (mark next : ℕ) → IsPropagated instance (oldest mark s.trail) s.trail
       → IsChangeAfter s.trail mark e (mark + 1)
-      → IsBehind s.trail mark e fresh next → IsPropagated instance (oldest next t.trail) t.trail
+      → IsNextMark s.trail mark e fresh next → IsPropagated instance (oldest next t.trail) t.trail
   settled_step mark next settled change behind = go behind
     where
       one : fresh e.rel ≡ true → IsPropagated instance (oldest (mark + 1) t.trail) t.trail
       one new = settled_one mark (mark + 1) e change refl refl refl new
           (settled_grown instance (oldest mark s.trail) s.trail t.trail work.extends.kept settled)
 
-      go : IsBehind s.trail mark e fresh next → IsPropagated instance (oldest next t.trail) t.trail
+      go : IsNextMark s.trail mark e fresh next → IsPropagated instance (oldest next t.trail) t.trail
       go (behind_one is new) = rw is (one new)
       go (behind_two f more d u v new also) =
           settled_one (mark + 1) next f more d u v also
@@ -140,20 +140,20 @@ module _ (instance : PlainInstance) (s t : PlainEdges) (e : Exclusion) (edge : I
           (seen_before (mark + 1) (let h = change.before_last in omega arith)) (one new))
 
   pub chained_step : (i mark next : ℕ) → (e.dim ≡ i → IsUnordered (excludes s.trail) e)
-      → IsChained instance i (oldest mark s.trail) s.trail
-      → IsChangeAfter s.trail mark e (mark + 1) → IsBehind s.trail mark e fresh next
-      → IsChained instance i (oldest next t.trail) t.trail
+      → IsChainUpToDate instance i (oldest mark s.trail) s.trail
+      → IsChangeAfter s.trail mark e (mark + 1) → IsNextMark s.trail mark e fresh next
+      → IsChainUpToDate instance i (oldest next t.trail) t.trail
   chained_step i mark next free chained change behind = go behind
     where
-      one : IsChained instance i (oldest (mark + 1) t.trail) t.trail
+      one : IsChainUpToDate instance i (oldest (mark + 1) t.trail) t.trail
       one = chained_one i mark (mark + 1) e change refl refl refl free
           (chained_grown instance i (oldest mark s.trail) s.trail t.trail work.extends.kept chained)
 
-      go : IsBehind s.trail mark e fresh next → IsChained instance i (oldest next t.trail) t.trail
+      go : IsNextMark s.trail mark e fresh next → IsChainUpToDate instance i (oldest next t.trail) t.trail
       go (behind_one is new) = rw is one
       go (behind_two f more d u v new also) =
           chained_one i (mark + 1) next f more d u v free
-          (subst (λ (l : List Exclusion). IsChained instance i l t.trail)
+          (subst (λ (l : List Exclusion). IsChainUpToDate instance i l t.trail)
           (seen_before (mark + 1) (let h = change.before_last in omega arith)) one)
 
 -- a stable list was settled
@@ -171,7 +171,7 @@ settled_stable instance seen es stable full within = record {
 
 pub chained_stable : (instance : PlainInstance) (i : ℕ) (seen es : List Exclusion) → IsStable instance (excludes seen)
     → IsSubset (excludes seen) (excludes es)
-    → IsChained instance i seen es
+    → IsChainUpToDate instance i seen es
 chained_stable instance i seen es stable within =
     record { covered = λ rule is. record { holds = λ j u v r add. go rule j u v r add } }
   where
@@ -180,7 +180,7 @@ chained_stable instance i seen es stable within =
     go rule _ _ _ _ (mirror_added r is p c) = within _ _ _ _ (stable _ _ _ _ (mirrored rule r is p c))
 
 pub chained_since : (instance : PlainInstance) (i : ℕ) (es : List Exclusion) (k : ℕ)
-    → IsStable instance (excludes (drop k es)) → IsChained instance i (drop k es) es
+    → IsStable instance (excludes (drop k es)) → IsChainUpToDate instance i (drop k es) es
 chained_since instance i es k stable = chained_stable instance i (drop k es) es stable (drop_within k es)
 
 pub settled_since : (instance : PlainInstance) (es : List Exclusion) (k : ℕ) → IsStable instance (excludes (drop k es))
@@ -244,7 +244,7 @@ settled_transitive instance es i hi settled u v x b uv vx = (
     only Before After r e f g = absurd (true≢false (sym vx.1 ∙ f))
 
 all_covered : (instance : PlainInstance) (es : List Exclusion) → IsUpToDate instance es es
-    → ((i : ℕ) → i < dims instance → IsChained instance i es es)
+    → ((i : ℕ) → i < dims instance → IsChainUpToDate instance i es es)
     → (rule : Rule) → IsRuleInstance instance rule → IsExhausted instance es rule
 all_covered instance es settled chains (Chain i before u v after) is =
     (chains i is.0).covered (Chain i before u v after) refl
@@ -257,7 +257,7 @@ all_covered instance es settled chains (Order i a b c d) is = settled.covered (O
 
 -- All is looked through and CHAIN adds nothing: no rule adds anything.
 pub stable_settled : (instance : PlainInstance) (es : List Exclusion) → IsUpToDate instance es es
-    → ((i : ℕ) → i < dims instance → IsChained instance i es es) → IsStable instance (excludes es)
+    → ((i : ℕ) → i < dims instance → IsChainUpToDate instance i es es) → IsStable instance (excludes es)
 stable_settled instance es settled chains _ _ _ _ (by_rule rule r is p c) =
     (all_covered instance es settled chains rule is).holds _ _ _ _ (added r is p c)
 stable_settled instance es settled chains _ _ _ _ (mirrored rule r is p c) =
@@ -274,9 +274,9 @@ settled_after instance old new k extends e h =
     same = oldest_grown extends.more old new k extends.grown (omega (arith, e)) ∙ oldest_all old k e
 
 pub chained_after : (instance : PlainInstance) (i : ℕ) (old new : List Exclusion) (k : ℕ) → Extends instance old new
-    → k ≡ length old → IsChained instance i old new
-    → IsChained instance i (oldest k new) new
-chained_after instance i old new k extends e h = subst (λ (l : List Exclusion). IsChained instance i l new) (sym same) h
+    → k ≡ length old → IsChainUpToDate instance i old new
+    → IsChainUpToDate instance i (oldest k new) new
+chained_after instance i old new k extends e h = subst (λ (l : List Exclusion). IsChainUpToDate instance i l new) (sym same) h
   where
     same : oldest k new ≡ old
     same = oldest_grown extends.more old new k extends.grown (omega (arith, e)) ∙ oldest_all old k e
@@ -315,14 +315,14 @@ settled_pairs instance old new k e two pairs =
 
 pub chained_pairs : (instance : PlainInstance) (i : ℕ) (old new : List Exclusion) (k : ℕ) → k ≡ 0
     → ((j u v : ℕ) → IsRuleInstance instance (Pair j u v) → IsCovered instance (excludes old) new (Pair j u v))
-    → IsChained instance i (oldest k new) new
+    → IsChainUpToDate instance i (oldest k new) new
 chained_pairs instance i old new k e pairs =
-    subst (λ (l : List Exclusion). IsChained instance i l new) (sym (oldest_none new k e))
+    subst (λ (l : List Exclusion). IsChainUpToDate instance i l new) (sym (oldest_none new k e))
     (chained_first instance i new (pairs_first instance old new pairs))
 
 -- the position behind is in the list, and later
 pub behind_within : (es : List Exclusion) (mark next : ℕ) (e : Exclusion) (fresh : Rel → Bool) → mark < length es
-    → IsBehind es mark e fresh next → (mark < next) × (next ≤ length es)
+    → IsNextMark es mark e fresh next → (mark < next) × (next ≤ length es)
 behind_within es mark next e fresh h (behind_one is new) = (omega (arith, is), omega (arith, h, is))
 behind_within es mark next e fresh h (behind_two f change d u v new also) =
     let before_last : mark + 1 < length es = change.before_last in
@@ -331,7 +331,7 @@ behind_within es mark next e fresh h (behind_two f change d u v new also) =
 
 pub grown_past : (instance : PlainInstance) (old new : List Exclusion) (mark next : ℕ) (e : Exclusion)
     (fresh : Rel → Bool) → Extends instance old new → mark < length old
-    → IsBehind old mark e fresh next → next ≤ length new
+    → IsNextMark old mark e fresh next → next ≤ length new
 grown_past instance old new mark next e fresh extends h behind =
     let grown : length new ≡ length extends.more + length old = rw extends.grown (length-append extends.more old) in
     let within = behind_within old mark next e fresh h behind in
@@ -344,6 +344,6 @@ pub settled_all : (instance : PlainInstance) (es : List Exclusion) (k : ℕ) →
 settled_all instance es k e h = subst (λ (l : List Exclusion). IsPropagated instance l es) (oldest_all es k e) h
 
 pub chained_all : (instance : PlainInstance) (i : ℕ) (es : List Exclusion) (k : ℕ) → k ≡ length es
-    → IsChained instance i (oldest k es) es
-    → IsChained instance i es es
-chained_all instance i es k e h = subst (λ (l : List Exclusion). IsChained instance i l es) (oldest_all es k e) h
+    → IsChainUpToDate instance i (oldest k es) es
+    → IsChainUpToDate instance i es es
+chained_all instance i es k e h = subst (λ (l : List Exclusion). IsChainUpToDate instance i l es) (oldest_all es k e) h

@@ -11,16 +11,16 @@ use Rattle.rule_terms.specs.Applied.{Adds, added, mirror_added, IsApplied}
 use Rattle.rule_terms.proofs.Applied.{extends_refl, extends_trans}
 use Rattle.edge_state.specs.Edges.{PlainEdges}
 use Rattle.closure_terms.specs.States.{IsSized}
-use Rattle.closure_terms.specs.Work.{IsCovered, IsWorked}
+use Rattle.closure_terms.specs.Work.{IsCovered, HasApplied}
 use Rattle.closure_terms.proofs.Touched.{adds_more}
 
 -- nothing was done, and nothing was to be done
 pub worked_none : (instance : PlainInstance) (s : PlainEdges) (R : Rule → Type 0)
-    → ((rule : Rule) → R rule → IsCovered instance (excludes s.trail) s.trail rule) → IsWorked instance s s false R
+    → ((rule : Rule) → R rule → IsCovered instance (excludes s.trail) s.trail rule) → HasApplied instance s s false R
 worked_none instance s R h = record {
   same_dims = refl;
   same_boxes = refl;
-  same_room = refl;
+  same_box_capacity = refl;
   extends = extends_refl instance s.trail;
   empty = λ e. absurd (true≢false (sym e));
   done = λ e. h;
@@ -58,11 +58,11 @@ covered_if instance X es rule h = record { holds = λ i u v r add. go i u v r ad
 -- a rule was applied, and no mask of its edge is lost
 pub worked_applied : (instance : PlainInstance) (a b : PlainEdges) (x : Bool) (rule : Rule)
     → b ≡ record a { trail = b.trail }
-    → IsApplied instance rule a.trail b.trail x → IsWorked instance a b false (λ s. s ≡ rule)
+    → IsApplied instance rule a.trail b.trail x → HasApplied instance a b false (λ s. s ≡ rule)
 worked_applied instance a b x rule e h = record {
   same_dims = ap (λ (s : PlainEdges). s.dims) e;
   same_boxes = ap (λ (s : PlainEdges). s.boxes) e;
-  same_room = ap (λ (s : PlainEdges). s.room) e;
+  same_box_capacity = ap (λ (s : PlainEdges). s.room) e;
   extends = h.step.extends;
   empty = λ f. absurd (true≢false (sym f));
   done = λ f s is. subst (λ (t : Rule). IsCovered instance (excludes a.trail) b.trail t) (sym is)
@@ -72,11 +72,11 @@ worked_applied instance a b x rule e h = record {
 -- fewer instances
 pub worked_as : (instance : PlainInstance) (a b : PlainEdges) (lost : Bool) (R S : Rule → Type 0)
     → ((rule : Rule) → S rule → R rule)
-    → IsWorked instance a b lost R → IsWorked instance a b lost S
+    → HasApplied instance a b lost R → HasApplied instance a b lost S
 worked_as instance a b lost R S f h = record {
   same_dims = h.same_dims;
   same_boxes = h.same_boxes;
-  same_room = h.same_room;
+  same_box_capacity = h.same_box_capacity;
   extends = h.extends;
   empty = h.empty;
   done = λ e rule s. h.done e rule (f rule s);
@@ -84,12 +84,12 @@ worked_as instance a b lost R S f h = record {
 
 -- one after the other, where the first lost no mask
 pub worked_then : (instance : PlainInstance) (a b c : PlainEdges) (lost : Bool) (R S : Rule → Type 0)
-    → IsWorked instance a b false R → IsWorked instance b c lost S
-    → IsWorked instance a c lost (λ rule. R rule ⊎ S rule)
+    → HasApplied instance a b false R → HasApplied instance b c lost S
+    → HasApplied instance a c lost (λ rule. R rule ⊎ S rule)
 worked_then instance a b c lost R S h k = record {
   same_dims = k.same_dims ∙ h.same_dims;
   same_boxes = k.same_boxes ∙ h.same_boxes;
-  same_room = k.same_room ∙ h.same_room;
+  same_box_capacity = k.same_box_capacity ∙ h.same_box_capacity;
   extends = extends_trans instance a.trail b.trail c.trail h.extends k.extends;
   empty = k.empty;
   done = λ e rule is. go e rule is;
@@ -107,8 +107,8 @@ worked_then instance a b c lost R S h k = record {
 
 -- one more of a range
 pub worked_next : (instance : PlainInstance) (a b c : PlainEdges) (lost : Bool) (k : ℕ) (P : ℕ → Rule → Type 0)
-    → IsWorked instance a b false (λ rule. (j : ℕ) × (j < k) × P j rule) → IsWorked instance b c lost (P k)
-    → IsWorked instance a c lost (λ rule. (j : ℕ) × (j < k + 1) × P j rule)
+    → HasApplied instance a b false (λ rule. (j : ℕ) × (j < k) × P j rule) → HasApplied instance b c lost (P k)
+    → HasApplied instance a c lost (λ rule. (j : ℕ) × (j < k + 1) × P j rule)
 worked_next instance a b c lost k P h here =
     worked_as instance a c lost (λ rule. ((j : ℕ) × (j < k) × P j rule) ⊎ P k rule)
     (λ rule. (j : ℕ) × (j < k + 1) × P j rule)
@@ -120,17 +120,17 @@ worked_next instance a b c lost k P h here =
     go rule j l p (inr f) = let same : j ≡ k = omega arith in inr (subst (λ (i : ℕ). P i rule) same p)
 
 pub worked_start : (instance : PlainInstance) (s : PlainEdges) (P : ℕ → Rule → Type 0)
-    → IsWorked instance s s false (λ rule. (j : ℕ) × (j < 0) × P j rule)
+    → HasApplied instance s s false (λ rule. (j : ℕ) × (j < 0) × P j rule)
 worked_start instance s P = worked_none instance s (λ rule. (j : ℕ) × (j < 0) × P j rule)
     (λ rule h. absurd (omega (arith, h.1)))
 
 -- a mask was lost on the way
 pub worked_lost : (instance : PlainInstance) (a b c : PlainEdges) (lost : Bool) (R S T : Rule → Type 0) → lost ≡ true
-    → IsWorked instance a b false R → IsWorked instance b c lost S → IsWorked instance a c true T
+    → HasApplied instance a b false R → HasApplied instance b c lost S → HasApplied instance a c true T
 worked_lost instance a b c lost R S T e h k = record {
   same_dims = k.same_dims ∙ h.same_dims;
   same_boxes = k.same_boxes ∙ h.same_boxes;
-  same_room = k.same_room ∙ h.same_room;
+  same_box_capacity = k.same_box_capacity ∙ h.same_box_capacity;
   extends = extends_trans instance a.trail b.trail c.trail h.extends k.extends;
   empty = λ f. k.empty e;
   done = λ f. absurd (true≢false f);
@@ -138,23 +138,23 @@ worked_lost instance a b c lost R S T e h k = record {
 
 -- the same where nothing was done before
 pub worked_lost_first : (instance : PlainInstance) (a b : PlainEdges) (lost : Bool) (S T : Rule → Type 0) → lost ≡ true
-    → IsWorked instance a b lost S → IsWorked instance a b true T
+    → HasApplied instance a b lost S → HasApplied instance a b true T
 worked_lost_first instance a b lost S T e k = record {
   same_dims = k.same_dims;
   same_boxes = k.same_boxes;
-  same_room = k.same_room;
+  same_box_capacity = k.same_box_capacity;
   extends = k.extends;
   empty = λ f. k.empty e;
   done = λ f. absurd (true≢false f);
 }
 
 pub worked_kept : (instance : PlainInstance) (a b : PlainEdges) (lost : Bool) (R : Rule → Type 0) → lost ≡ false
-    → IsWorked instance a b lost R → IsWorked instance a b false R
-worked_kept instance a b lost R e h = subst (λ (x : Bool). IsWorked instance a b x R) e h
+    → HasApplied instance a b lost R → HasApplied instance a b false R
+worked_kept instance a b lost R e h = subst (λ (x : Bool). HasApplied instance a b x R) e h
 
 -- the sizes stay
 pub sizes_worked : (instance : PlainInstance) (a b : PlainEdges) (i : ℕ) (x : Bool) (R : Rule → Type 0)
-    → IsWorked instance a b x R → IsSized instance a i → IsSized instance b i
+    → HasApplied instance a b x R → IsSized instance a i → IsSized instance b i
 sizes_worked instance a b i x R h sizes =
     record {
       same_dims = h.same_dims ∙ sizes.same_dims;

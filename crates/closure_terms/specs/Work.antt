@@ -87,11 +87,11 @@ IsExhausted instance es rule = IsCovered instance (excludes es) es rule
 
 -- The state grew by what follows. Where it is told that a mask is empty, one is; else these
 -- instances cover what they add by the old exclusions.
-pub record IsWorked (instance : PlainInstance) (old new : PlainEdges) (emptied : Bool) (Rules : Rule → Type 0) :
+pub record HasApplied (instance : PlainInstance) (old new : PlainEdges) (emptied : Bool) (Rules : Rule → Type 0) :
     Type 0 where
   pub same_dims : new.dims ≡ old.dims
   pub same_boxes : new.boxes ≡ old.boxes
-  pub same_room : new.room ≡ old.room
+  pub same_box_capacity : new.room ≡ old.room
   pub extends : Extends instance old.trail new.trail
   pub empty : IsTrue emptied → HasEmptyMask instance (excludes new.trail)
   pub done : emptied ≡ false → (rule : Rule) → Rules rule → IsCovered instance (excludes old.trail) new.trail rule
@@ -110,7 +110,7 @@ pub record IsPropagated (instance : PlainInstance) (seen es : List Exclusion) : 
   pub full : HasNoEmptyMask instance (excludes seen)
 
 -- all that CHAIN adds in this dimension by what was looked through is excluded
-pub record IsChained (instance : PlainInstance) (i : ℕ) (seen es : List Exclusion) : Type 0 where
+pub record IsChainUpToDate (instance : PlainInstance) (i : ℕ) (seen es : List Exclusion) : Type 0 where
   pub covered : (rule : Rule) → IsChainIn i rule → IsCovered instance (excludes seen) es rule
 
 -- neither box of the exclusion is surely before the other
@@ -120,15 +120,15 @@ pub record IsUnordered (X : Exclusions) (e : Exclusion) : Type 0 where
 
 -- The position behind the next exclusion of the list, or behind two that stand together and are at
 -- one edge; each of them is of a fresh relation.
-pub data IsBehind (es : List Exclusion) (mark : ℕ) (e : Exclusion) (fresh : Rel → Bool) (next : ℕ) :
+pub data IsNextMark (es : List Exclusion) (mark : ℕ) (e : Exclusion) (fresh : Rel → Bool) (next : ℕ) :
     Type 0 where
-  behind_one : next ≡ mark + 1 → fresh e.rel ≡ true → IsBehind es mark e fresh next
+  behind_one : next ≡ mark + 1 → fresh e.rel ≡ true → IsNextMark es mark e fresh next
   behind_two : (f : Exclusion) → IsChangeAfter es (mark + 1) f next → f.dim ≡ e.dim → f.u ≡ e.u → f.v ≡ e.v
-      → fresh e.rel ≡ true → fresh f.rel ≡ true → IsBehind es mark e fresh next
+      → fresh e.rel ≡ true → fresh f.rel ≡ true → IsNextMark es mark e fresh next
 
 -- What was looked through of a list: no rule adds anything by it but CHAIN in the dimensions of a
 -- row.
-pub record IsLookedThrough (instance : PlainInstance) (seen es : List Exclusion) (dirty : List ℕ) : Type 0 where
+pub record IsWorklistDone (instance : PlainInstance) (seen es : List Exclusion) (dirty : List ℕ) : Type 0 where
   pub settled : IsPropagated instance seen es
-  pub chained : (i : ℕ) → i < dims instance → row_has dirty i ≡ false → IsChained instance i seen es
+  pub chained : (i : ℕ) → i < dims instance → row_has dirty i ≡ false → IsChainUpToDate instance i seen es
   pub within : (i : ℕ) → row_has dirty i ≡ true → i < dims instance

@@ -10,8 +10,8 @@ ghost use Rattle.rule_terms.specs.Applied.{Extends};
 ghost use Rattle.rule_terms.specs.Places.{HasNoEmptyMask};
 ghost use Rattle.rule_terms.specs.Runs.{IsTransitive, AreHeaviestHeads, AreHeaviestTails};
 ghost use Rattle.closure_terms.specs.States.{HasEmptyMask};
-ghost use Rattle.closure_terms.specs.Work.{IsAppliedAt, IsCovered, IsUpToDate, IsChained, IsUnordered};
-ghost use Rattle.closure_terms.specs.Passes.{IsShut};
+ghost use Rattle.closure_terms.specs.Work.{IsAppliedAt, IsCovered, IsUpToDate, IsChainUpToDate, IsUnordered};
+ghost use Rattle.closure_terms.specs.Passes.{IsChainChecked};
 ghost use Rattle.closure_terms.specs.Ends.{IsClosureOf, IsConflictOf};
 
 /// Where a closing may begin: by no exclusion at all, once PAIR was applied at all pairs; and by
@@ -22,12 +22,12 @@ pub fn closings_begin()
         → IsCovered instance (excludes []) es (Pair i u v)) → IsUpToDate instance [] es }
     ensures chained { (instance : PlainInstance) (i : ℕ) (es : List PlainExclusion)
         → ((j u v : ℕ) → IsRuleInstance instance (Pair j u v)
-        → IsCovered instance (excludes []) es (Pair j u v)) → IsChained instance i [] es }
+        → IsCovered instance (excludes []) es (Pair j u v)) → IsChainUpToDate instance i [] es }
     ensures settled_since { (instance : PlainInstance) (es : List PlainExclusion) (k : ℕ)
         → IsStable instance (excludes (drop k es)) → HasNoEmptyMask instance (excludes (drop k es))
         → IsUpToDate instance (drop k es) es }
     ensures chained_since { (instance : PlainInstance) (i : ℕ) (es : List PlainExclusion) (k : ℕ)
-        → IsStable instance (excludes (drop k es)) → IsChained instance i (drop k es) es }
+        → IsStable instance (excludes (drop k es)) → IsChainUpToDate instance i (drop k es) es }
 {}
 
 /// An exclusion is looked through once the instances that are to be applied for its edge, in both
@@ -41,8 +41,8 @@ pub fn changes_are_looked_through()
         → IsCovered instance (excludes old) new rule) → IsUpToDate instance (e ∷ seen) new }
     ensures chained { (instance : PlainInstance) (e : PlainExclusion)
         (seen old new : List PlainExclusion) (i : ℕ) → IsSubset (excludes (e ∷ seen)) (excludes old)
-        → (e.dim ≡ i → IsUnordered (excludes old) e) → IsChained instance i seen new
-        → IsChained instance i (e ∷ seen) new }
+        → (e.dim ≡ i → IsUnordered (excludes old) e) → IsChainUpToDate instance i seen new
+        → IsChainUpToDate instance i (e ∷ seen) new }
 {}
 
 /// With the weights of heaviest chains, what CHAIN adds in a dimension is covered once no box is
@@ -51,8 +51,8 @@ pub fn chains_are_covered()
     ensures { (instance : PlainInstance) (i : ℕ) (old new : List PlainExclusion)
         (head tail : List ℕ) → AreHeaviestHeads instance (excludes old) i head
         → AreHeaviestTails instance (excludes old) i tail → ((u : ℕ) → u < box_count instance
-        → (v : ℕ) → v < box_count instance → IsShut instance i head tail u v new)
-        → IsChained instance i old new }
+        → (v : ℕ) → v < box_count instance → IsChainChecked instance i head tail u v new)
+        → IsChainUpToDate instance i old new }
 {}
 
 /// Where the whole list is looked through, surely before is transitive, since COMPOSE adds nothing;
@@ -62,7 +62,7 @@ pub fn settled_lists_are_stable()
         → i < dims instance → IsUpToDate instance es es
         → IsTransitive (box_count instance) (IsSurelyBefore (excludes es) i) }
     ensures stable { (instance : PlainInstance) (es : List PlainExclusion)
-        → IsUpToDate instance es es → ((i : ℕ) → i < dims instance → IsChained instance i es es)
+        → IsUpToDate instance es es → ((i : ℕ) → i < dims instance → IsChainUpToDate instance i es es)
         → IsStable instance (excludes es) }
 {}
 

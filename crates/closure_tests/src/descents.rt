@@ -223,7 +223,7 @@ fn from_root(
 }
 
 #[test]
-fn closing_what_changed_is_closing(rt: HostRuntime) -> Result<(), Fail> {
+fn incremental_closure_equals_full_closure(rt: HostRuntime) -> Result<(), Fail> {
     let mut random = 3;
     let mut stay = 0u32;
     for number in 0..200u32 {

@@ -49,7 +49,7 @@ const AMONG: [(usize, [u32; 8]); 3] = [
 ];
 
 #[test]
-fn closures_of_few_among_many_are_those_of_the_few(rt: HostRuntime) -> Result<(), Fail> {
+fn closure_of_a_subset_ignores_other_boxes(rt: HostRuntime) -> Result<(), Fail> {
     let mut random = 9;
     let mut stable = 0u32;
     for number in 0..50u32 {

@@ -4,7 +4,7 @@ use crate::relations::{AFTER, ALL, BEFORE, EACH, ORDERS, OVERLAP, needed, turned
 use crate::state::State;
 use crate::table::Edge;
 use box_instances::NoMemory;
-use loose_lists::at;
+use lenient_lists::at;
 
 /// What an exclusion at two boxes comes from. Numbers name other boxes.
 #[derive(Clone, Copy)]

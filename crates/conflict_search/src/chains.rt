@@ -5,15 +5,15 @@
 ghost use Rattle.std.specs.Prelude.{◌<◌};
 
 use crate::causes::{Cause, exclude};
-use crate::relations::{BEFORE, MOST_BOXES, Row, bit, lowest};
+use crate::relations::{BEFORE, MAX_BOXES, Row, bit, lowest};
 use crate::state::State;
 use crate::table::{Edge, Table};
 use box_instances::NoMemory;
-use loose_lists::pushed;
+use lenient_lists::pushed;
 use std::alloc::Global;
 
 // The most boxes, and the most dimensions, as the lengths of lists.
-const ROOM: usize = MOST_BOXES as usize;
+const ROOM: usize = MAX_BOXES as usize;
 
 const DIMS: usize = 4;
 
@@ -25,7 +25,7 @@ const MOST_RISES: u64 = 100_000;
 fn slot(v: u32) -> usize
     ensures { result < 64 }
 {
-    (v % MOST_BOXES) as usize
+    (v % MAX_BOXES) as usize
 }
 
 // The place of a dimension in the lists.
@@ -254,7 +254,7 @@ fn exclude_risen(state: &mut State, chains: &Chains, dim: u32) -> Result<(), NoM
 }
 
 /// CHAIN in all dimensions, at the boxes whose chains grew since it was last gone through.
-pub(crate) fn exclude_long(state: &mut State, chains: &mut Chains) -> Result<(), NoMemory> {
+pub(crate) fn propagate_chain_rule(state: &mut State, chains: &mut Chains) -> Result<(), NoMemory> {
     for dim in 0..state.table().dims() {
         exclude_risen(state, chains, dim)?;
     }

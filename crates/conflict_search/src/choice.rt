@@ -4,7 +4,7 @@ use crate::relations::{ORDERS, OVERLAP, Row, below, bit, lowest};
 use crate::splits::{Choice, Split};
 use crate::table::{Edge, Table};
 use crate::weights::Weights;
-use loose_lists::at;
+use lenient_lists::at;
 
 /// Two boxes by rank, the lower number first, with their score. A score of 0 is of no pair.
 #[derive(Clone, Copy)]
@@ -15,7 +15,7 @@ pub struct Rated {
 }
 
 /// No pair.
-pub(crate) const NOBODY: Rated = Rated {
+pub(crate) const NO_PAIR: Rated = Rated {
     score: 0,
     u: 0,
     v: 0,
@@ -133,7 +133,7 @@ pub(crate) fn split_of(
 
 /// The split of the pair that weighs most, and none where each pair is settled.
 pub(crate) fn heaviest_split(table: &Table, weights: &Weights, rank: &[u32]) -> Option<Split> {
-    let mut best = [NOBODY];
+    let mut best = [NO_PAIR];
     rate_pairs(table, weights, &mut best);
     if best[0].score == 0 {
         return None;

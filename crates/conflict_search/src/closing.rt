@@ -1,7 +1,7 @@
 //! Closings: all rules, until none adds anything or all is excluded somewhere.
 
 use crate::causes::{Cause, exclude};
-use crate::chains::{Chains, exclude_long};
+use crate::chains::{Chains, propagate_chain_rule};
 use crate::relations::{AFTER, BEFORE, ORDERS, OVERLAP};
 use crate::splits::{Child, Choice, Split};
 use crate::spread::spread;
@@ -51,7 +51,7 @@ pub(crate) fn close(state: &mut State, chains: &mut Chains) -> Result<bool, NoMe
         if !raise_chains(state, chains)? {
             return Ok(true);
         }
-        exclude_long(state, chains)?;
+        propagate_chain_rule(state, chains)?;
     }
     Ok(true)
 }

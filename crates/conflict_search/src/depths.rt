@@ -6,7 +6,7 @@ const DEEP: usize = 255;
 
 /// A set of splits of the way down.
 #[derive(Clone, Copy)]
-pub struct Depths {
+pub struct DecisionSet {
     words: [u64; 4],
 }
 
@@ -16,9 +16,9 @@ fn bit_of(depth: usize) -> u64 {
     1u64 << (depth % 64)
 }
 
-impl Depths {
+impl DecisionSet {
     /// No split.
-    pub const NONE: Depths = Depths { words: [0; 4] };
+    pub const NONE: DecisionSet = DecisionSet { words: [0; 4] };
 
     /// Adds the split of a depth.
     #[inline]
@@ -43,7 +43,7 @@ impl Depths {
 
     /// Adds all splits of another set.
     #[inline]
-    pub fn join(&mut self, other: &Depths) {
+    pub fn join(&mut self, other: &DecisionSet) {
         for k in 0..4 {
             self.words[k] |= other.words[k];
         }

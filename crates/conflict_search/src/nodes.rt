@@ -2,7 +2,7 @@
 
 use crate::splits::Split;
 use box_instances::NoMemory;
-use loose_lists::pushed;
+use lenient_lists::pushed;
 use proof_tree::Token;
 use std::alloc::Global;
 

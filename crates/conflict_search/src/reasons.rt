@@ -1,27 +1,27 @@
 //! What a conflict rests on: the splits above it that led to it, and the pairs on the way there.
 
-use crate::depths::Depths;
+use crate::depths::DecisionSet;
 use crate::relations::{EACH, OVERLAP};
 use crate::state::State;
 use crate::table::Edge;
 use crate::weights::Weights;
 use box_instances::NoMemory;
-use loose_lists::{at, pushed, put, zeros};
+use lenient_lists::{at, pushed, put, zeros};
 use std::alloc::Global;
 
 /// The room for going back along premises.
 #[derive(Drop)]
-pub struct Tracer {
+pub struct ConflictAnalyzer {
     // For each fact the number of the trace that met it last.
     met: Vec<u32>,
     trace: u32,
     waiting: Vec<usize>,
 }
 
-impl Tracer {
+impl ConflictAnalyzer {
     /// Room for so many facts.
-    pub fn new(alloc: Global, fact_count: usize) -> Result<Tracer, NoMemory> {
-        Ok(Tracer {
+    pub fn new(alloc: Global, fact_count: usize) -> Result<ConflictAnalyzer, NoMemory> {
+        Ok(ConflictAnalyzer {
             met: zeros(alloc, fact_count)?,
             trace: 0,
             waiting: Vec::new(alloc),
@@ -47,7 +47,12 @@ impl Tracer {
 
     // Meets the premises of an exclusion, or adds its split where it has none.
     #[inline]
-    fn look(&mut self, state: &State, place: usize, into: &mut Depths) -> Result<(), NoMemory> {
+    fn look(
+        &mut self,
+        state: &State,
+        place: usize,
+        into: &mut DecisionSet,
+    ) -> Result<(), NoMemory> {
         let premises = state.premises_of(place);
         if premises.len() == 0 {
             if let Some(entry) = state.entry(place) {
@@ -61,7 +66,7 @@ impl Tracer {
     }
 
     // Goes back from what waits to splits.
-    fn go_back(&mut self, state: &State, into: &mut Depths) -> Result<(), NoMemory> {
+    fn go_back(&mut self, state: &State, into: &mut DecisionSet) -> Result<(), NoMemory> {
         for _ in 0..self.met.len() {
             let Some(place) = self.waiting.pop() else {
                 return Ok(());
@@ -72,10 +77,10 @@ impl Tracer {
     }
 
     // The same, and each pair on the way weighs more.
-    fn go_back_weighing(
+    fn trace_and_bump(
         &mut self,
         state: &State,
-        into: &mut Depths,
+        into: &mut DecisionSet,
         weights: &mut Weights,
     ) -> Result<(), NoMemory> {
         for _ in 0..self.met.len() {
@@ -94,7 +99,7 @@ impl Tracer {
     pub fn conflict(
         &mut self,
         state: &State,
-        into: &mut Depths,
+        into: &mut DecisionSet,
         weights: &mut Weights,
     ) -> Result<(), NoMemory> {
         let Some(edge) = state.conflict() else {
@@ -104,11 +109,16 @@ impl Tracer {
         for relation in EACH {
             self.meet(state, state.fact(edge.dim, edge.u, edge.v, relation))?;
         }
-        self.go_back_weighing(state, into, weights)
+        self.trace_and_bump(state, into, weights)
     }
 
     /// Adds the splits on which it rests that two boxes are apart in a dimension.
-    pub fn apart(&mut self, state: &State, edge: Edge, into: &mut Depths) -> Result<(), NoMemory> {
+    pub fn apart(
+        &mut self,
+        state: &State,
+        edge: Edge,
+        into: &mut DecisionSet,
+    ) -> Result<(), NoMemory> {
         self.trace = self.trace.wrapping_add(1);
         self.meet(state, state.fact(edge.dim, edge.u, edge.v, OVERLAP))?;
         self.go_back(state, into)

@@ -5,7 +5,7 @@ ghost use Rattle.packing_terms.specs.Scales.{SidesFit};
 ghost use Rattle.conflict_search.specs.Sizes.{IsSized};
 
 use crate::proposal::Proposal;
-use crate::relations::MOST_BOXES;
+use crate::relations::MAX_BOXES;
 use crate::search::{Ended, Search};
 use box_instances::{Instance, NoMemory};
 use conservative_scales::first_exceeding;
@@ -72,7 +72,7 @@ fn places_of(alloc: Global, instance: &Instance, search: &Search) -> Result<Prop
 fn explored(alloc: Global, instance: &Instance, splits: u64) -> Result<Proposal, NoMemory>
     ensures { IfOk result (IsSized instance.now) }
 {
-    if instance.len() > MOST_BOXES {
+    if instance.len() > MAX_BOXES {
         return Ok(Proposal::Nothing);
     }
     let mut search = Search::new(alloc, instance)?;

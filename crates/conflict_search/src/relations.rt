@@ -5,7 +5,7 @@
 pub type Row = u64;
 
 /// The most boxes of a row.
-pub(crate) const MOST_BOXES: u32 = 64;
+pub(crate) const MAX_BOXES: u32 = 64;
 
 pub(crate) const OVERLAP: u8 = 1;
 
@@ -41,7 +41,7 @@ pub(crate) fn lowest(row: Row) -> u32 {
 /// The set of all boxes below a number.
 #[inline]
 pub(crate) fn below(count: u32) -> Row {
-    if count < MOST_BOXES {
+    if count < MAX_BOXES {
         bit(count).wrapping_sub(1)
     } else {
         Row::MAX

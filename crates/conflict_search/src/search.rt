@@ -9,32 +9,32 @@
 use crate::chains::Chains;
 use crate::choice::heaviest_split;
 use crate::closing::{Mark, close_root, enter, here, leave};
-use crate::depths::Depths;
-use crate::looking::{Chosen, best_split};
+use crate::depths::DecisionSet;
+use crate::lookahead::{Chosen, best_split};
 use crate::nodes::{LEAF, Nodes};
-use crate::reasons::Tracer;
+use crate::reasons::ConflictAnalyzer;
 use crate::splits::{Child, Choice, Split};
 use crate::state::State;
 use crate::weights::Weights;
 use box_instances::{Instance, NoMemory};
-use loose_lists::{at, pushed, put};
+use lenient_lists::{at, pushed, put};
 use proof_tree::Token;
 use std::alloc::Global;
 
 // For so many splits the children of several pairs are closed before one is chosen. That makes
 // small trees smaller, and large ones dearer.
-const LOOKED: u64 = 20_000;
+const LOOKAHEAD_SPLITS: u64 = 20_000;
 
 // What refutes a node: its tree, and the splits above on which that rests.
 #[derive(Clone, Copy)]
 struct Refuted {
     node: usize,
-    reason: Depths,
+    reason: DecisionSet,
 }
 
 const NOT_YET: Refuted = Refuted {
     node: LEAF,
-    reason: Depths::NONE,
+    reason: DecisionSet::NONE,
 };
 
 // A split on the way down, the mark of its node, and the child that was visited first. Once that is
@@ -73,7 +73,7 @@ pub struct Search {
     rank: Vec<u32>,
     state: State,
     chains: Chains,
-    tracer: Tracer,
+    tracer: ConflictAnalyzer,
     weights: Weights,
     nodes: Nodes,
     frames: Vec<Frame>,
@@ -92,7 +92,7 @@ impl Search {
     pub fn new(alloc: Global, instance: &Instance) -> Result<Search, NoMemory> {
         let rank = instance.rank_order(alloc)?;
         let state = State::new(alloc, instance, rank.as_slice())?;
-        let tracer = Tracer::new(alloc, state.fact_count())?;
+        let tracer = ConflictAnalyzer::new(alloc, state.fact_count())?;
         let weights = Weights::new(alloc, state.table())?;
         let chains = Chains::new(alloc, state.table());
         Ok(Search {
@@ -161,7 +161,12 @@ impl Search {
     }
 
     // Goes to the other child of a split.
-    fn turn(&mut self, frame: Frame, depth: usize, refuted: Refuted) -> Result<Standing, NoMemory> {
+    fn try_other_child(
+        &mut self,
+        frame: Frame,
+        depth: usize,
+        refuted: Refuted,
+    ) -> Result<Standing, NoMemory> {
         let mut earlier = refuted;
         earlier.reason.remove(depth);
         leave(&mut self.state, &mut self.chains, frame.mark);
@@ -176,7 +181,7 @@ impl Search {
     }
 
     // Goes back from a refuted node to the other child of the nearest split that it rests on.
-    fn ascend(&mut self, refuted: Refuted) -> Result<Standing, NoMemory> {
+    fn backjump(&mut self, refuted: Refuted) -> Result<Standing, NoMemory> {
         let mut below = refuted;
         for _ in 0..self.frames.len() {
             let Some(frame) = self.frames.pop() else {
@@ -187,7 +192,7 @@ impl Search {
                 continue;
             }
             match frame.refuted {
-                None => return self.turn(frame, depth, below),
+                None => return self.try_other_child(frame, depth, below),
                 Some(earlier) => below = self.joined(frame, depth, earlier, below)?,
             }
         }
@@ -195,13 +200,13 @@ impl Search {
     }
 
     // Goes back from a conflict.
-    fn refute(&mut self) -> Result<Standing, NoMemory> {
+    fn analyze_conflict(&mut self) -> Result<Standing, NoMemory> {
         let mut leaf = NOT_YET;
         let reason = &mut leaf.reason;
         self.tracer
             .conflict(&self.state, reason, &mut self.weights)?;
         self.weights.age();
-        self.ascend(leaf)
+        self.backjump(leaf)
     }
 
     /// Searches with at most so many splits.
@@ -213,9 +218,9 @@ impl Search {
         for _ in 0..most.saturating_mul(3).saturating_add(2) {
             now = match now {
                 Standing::Refuted(node) => return Ok(Ended::Refuted(node)),
-                Standing::Conflict => self.refute()?,
+                Standing::Conflict => self.analyze_conflict()?,
                 Standing::Calm => {
-                    let Some(chosen) = self.chosen(splits < LOOKED)? else {
+                    let Some(chosen) = self.chosen(splits < LOOKAHEAD_SPLITS)? else {
                         return Ok(Ended::Settled);
                     };
                     if splits >= most {

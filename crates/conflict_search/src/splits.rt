@@ -1,7 +1,7 @@
 //! Splits of pairs.
 
 use crate::table::Edge;
-use loose_lists::at;
+use lenient_lists::at;
 use proof_tree::Token;
 
 /// How a pair is split: into apart and joined, or (once it is apart) into one order and the other.

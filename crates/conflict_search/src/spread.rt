@@ -1,9 +1,9 @@
 //! What follows from an edge that changed: which rules are looked at, and COMPOSE.
 
 use crate::causes::{Cause, exclude};
+use crate::cycles::{apart_elsewhere, cycles_with_chord, cycles_with_side, triples};
 use crate::orders::{orders_across, orders_along};
 use crate::relations::{AFTER, BEFORE, ORDERS, OVERLAP, bit, has, lowest, turned};
-use crate::rings::{apart_elsewhere, rings_across, rings_along, triples};
 use crate::state::State;
 use crate::table::{Edge, Rows};
 use box_instances::NoMemory;
@@ -66,14 +66,14 @@ fn compose(state: &mut State, dim: u32, u: u32, v: u32, mask: u8) -> Result<(), 
 fn spread_apart(state: &mut State, edge: Edge) -> Result<(), NoMemory> {
     triples(state, edge.dim, edge.u, edge.v)?;
     triples(state, edge.dim, edge.v, edge.u)?;
-    rings_across(state, edge.dim, edge.u, edge.v)
+    cycles_with_chord(state, edge.dim, edge.u, edge.v)
 }
 
 // What follows where two boxes became joined.
 fn spread_joined(state: &mut State, edge: Edge) -> Result<(), NoMemory> {
     apart_elsewhere(state, edge)?;
-    rings_along(state, edge.dim, edge.u, edge.v)?;
-    rings_along(state, edge.dim, edge.v, edge.u)
+    cycles_with_side(state, edge.dim, edge.u, edge.v)?;
+    cycles_with_side(state, edge.dim, edge.v, edge.u)
 }
 
 // What follows where an order became sure, or was excluded.

@@ -6,7 +6,7 @@
 use crate::relations::{AFTER, ALL, BEFORE, OVERLAP, turned};
 use crate::table::{Edge, Table};
 use box_instances::{Instance, NoMemory};
-use loose_lists::pushed;
+use lenient_lists::pushed;
 use std::alloc::Global;
 
 /// An exclusion on the trail, of one relation. Its premises begin at `from` and end where those of

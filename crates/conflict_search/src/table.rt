@@ -4,7 +4,7 @@
 
 use crate::relations::{AFTER, BEFORE, OVERLAP, Row, below, bit, has, turned};
 use box_instances::{Instance, NoMemory};
-use loose_lists::{at, put, zeros};
+use lenient_lists::{at, put, zeros};
 use std::alloc::Global;
 
 /// Two boxes in a dimension. Wherever an edge is kept, `u` is the lower number.

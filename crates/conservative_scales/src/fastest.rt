@@ -2,7 +2,7 @@
 ghost use Rattle.std.specs.Prelude.{◌≡◌, ◌<◌, ◌≤◌, ◌+◌, ◌*◌, ◌/◌, ◌^◌, ℕ, length, drop, take, slice_index, nat_lt, MatchBool, ⊤, None, Some};
 ghost use Rattle.std.specs.List.{find};
 ghost use Rattle.packing_terms.specs.Packing.{dims, box_count, container_side, side};
-ghost use Rattle.packing_terms.specs.Limits.{most_boxes, IsInternalInstance};
+ghost use Rattle.packing_terms.specs.Limits.{max_boxes, IsInternalInstance};
 ghost use Rattle.packing_terms.specs.Scales.{IsLegalScale, SidesFit, scale_image, scale_whole};
 ghost use Rattle.packing_terms.specs.Sums.{sum_below};
 ghost use Rattle.packing_terms.specs.Tuples.{has_excess};
@@ -63,7 +63,7 @@ fn may_exceed_narrow(
     requires limits { IsInternalInstance instance.now }
     requires there { 1 ≤ dims instance.now }
     requires fit { SidesFit instance.now }
-    requires few { copies ≤ most_boxes }
+    requires few { copies ≤ max_boxes }
     requires shares_room { box_count instance.now ≤ length shares.now }
     requires shares { AreShares instance.now shares.now }
     requires room { at + box_count instance.now ≤ length images.now }
@@ -93,7 +93,7 @@ fn may_exceed(
     requires limits { IsInternalInstance instance.now }
     requires there { 1 ≤ dims instance.now }
     requires fit { SidesFit instance.now }
-    requires few { copies ≤ most_boxes }
+    requires few { copies ≤ max_boxes }
     requires shares_room { box_count instance.now ≤ length shares.now }
     requires shares { AreShares instance.now shares.now }
     requires room { at + box_count instance.now ≤ length images.now }
@@ -130,7 +130,7 @@ fn exceeds_narrow(
     requires limits { IsInternalInstance instance.now }
     requires there { 1 ≤ dims instance.now }
     requires fit { SidesFit instance.now }
-    requires few { copies ≤ most_boxes }
+    requires few { copies ≤ max_boxes }
     requires legal { IsLegalScale f (container_side instance.now 0) }
     requires made_room { made_at + box_count instance.now ≤ length made.now }
     requires made { (v : ℕ) → v < box_count instance.now → slice_index made.now (made_at + v)
@@ -168,7 +168,7 @@ fn exceeds_with(
     requires limits { IsInternalInstance instance.now }
     requires there { 1 ≤ dims instance.now }
     requires fit { SidesFit instance.now }
-    requires few { copies ≤ most_boxes }
+    requires few { copies ≤ max_boxes }
     requires legal { IsLegalScale f (container_side instance.now 0) }
     requires made_room { made_at + box_count instance.now ≤ length made.now }
     requires made { (v : ℕ) → v < box_count instance.now → slice_index made.now (made_at + v)

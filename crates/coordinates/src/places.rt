@@ -8,7 +8,7 @@ ghost use Rattle.rule_terms.specs.Places.{HasNoEmptyMask, IsOrdered, IsGreatestE
 ghost use Rattle.rule_terms.specs.Runs.{AreHeaviestHeads};
 ghost use Rattle.coordinates.specs.Starts.{EndsInHeads};
 
-use box_instances::{Instance, MOST_BOXES};
+use box_instances::{Instance, MAX_BOXES};
 use edge_state::EdgeState;
 use orientation_rules::heads;
 
@@ -55,7 +55,7 @@ pub fn place_from(state: &EdgeState, instance: &Instance, into: &mut [u32])
 {
     // For the proof alone: tells the limits of the state.
     let _sizes = state.dims();
-    let mut weights = [0u64; MOST_BOXES];
+    let mut weights = [0u64; MAX_BOXES];
     let head = &mut weights[..instance.len() as usize];
     for dim in 0..instance.dims() {
         heads(instance, state, dim, head);

@@ -15,7 +15,7 @@ use Rattle.verdict_terms.proofs.True.{documents_are_true}
 use Rattle.document_check.specs.Audited.{IsTrueDocument}
 use Rattle.document_check.specs.declared.check.CheckEnd.{CheckEnd}
 use Rattle.document_check.specs.declared.check.CheckEnd.TheVariants.{Verified, Refused, TooLong, ReadFault, NoMemory}
-use Rattle.document_check.specs.Checked.{most_document_bytes, IsCheckedUnder, Comes, CountsCheck}
+use Rattle.document_check.specs.Checked.{max_check_bytes, IsCheckedUnder, Comes, CountsCheck}
 
 -- what was taken is the front of the bytes
 parts : (bytes taken left : List ℕ) → Some bytes ≡ prepend_known taken (Some left) → bytes ≡ taken ++ left
@@ -33,7 +33,7 @@ Audits heading bytes TooLong = ⊥
 Audits heading bytes ReadFault = ⊥
 Audits heading bytes NoMemory = Unit {0}
 
-pub audited : (heading : Heading) (bytes left : List ℕ) (result : CheckEnd) → length bytes ≤ most_document_bytes
+pub audited : (heading : Heading) (bytes left : List ℕ) (result : CheckEnd) → length bytes ≤ max_check_bytes
     → IsCheckedUnder heading (Some bytes) (Some left) (exactly 0) (exactly 0) result
     → Audits heading bytes result
 audited heading bytes left result few h = go result h.faults h.comes

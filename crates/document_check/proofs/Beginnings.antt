@@ -17,7 +17,7 @@ use Rattle.verdict_terms.specs.declared.heading.Heading.{Heading}
 use Rattle.verdict_terms.specs.declared.heading.Heading.TheVariants.{Answer, Reduced, Bounded}
 use Rattle.document_terms.specs.declared.claim.Claim.{Claim}
 use Rattle.document_terms.specs.declared.claim.Claim.TheVariants.{Fitting}
-use Rattle.verdict_terms.specs.Stages.{Stage, placed, to_refute, claimed, start_exclusions}
+use Rattle.verdict_terms.specs.Stages.{Stage, placed, refutation_goal, claimed, start_exclusions}
 use Rattle.verdict_terms.specs.Stages.Stage.{Placing, Ending}
 use Rattle.verdict_terms.specs.Trees.{Refuted}
 use Rattle.verdict_terms.specs.Trees.Tree.{InnerTree}
@@ -53,9 +53,9 @@ pub fitting_placed : (heading : Heading) (claim : Claim) (refuted : Refuted) →
 fitting_placed heading claim refuted is = ap (λ c. placed heading c refuted) is
 
 pub fitting_claimed : (heading : Heading) (instance : PlainInstance) (claim : Claim) → claim ≡ Fitting
-    → Placing heading instance claim (to_refute heading instance claim) [] ≡ claimed heading instance claim
+    → Placing heading instance claim (refutation_goal heading instance claim) [] ≡ claimed heading instance claim
 fitting_claimed heading instance claim is =
-    subst (λ (c : Claim). Placing heading instance c (to_refute heading instance c) [] ≡ claimed heading instance c)
+    subst (λ (c : Claim). Placing heading instance c (refutation_goal heading instance c) [] ≡ claimed heading instance c)
     (sym is) refl
 
 -- where the document stands behind the lines of a judge

@@ -20,7 +20,7 @@ use Rattle.document_lines.specs.declared.judge.ReadEnd.TheVariants.{End, Paused,
 use Rattle.document_lines.specs.declared.judge.ReadEnd.TheVariants.{TooLong as ReadTooLong, ReadFault as ReadFailed}
 use Rattle.document_lines.specs.declared.judge.ReadEnd.TheVariants.{NoMemory as ReadNoMemory}
 use Rattle.document_check.specs.declared.position.Position.{Position}
-use Rattle.document_check.specs.Checked.{most_document_bytes, CountsCheck, IsCheckedUnder, IsCheckedBehind}
+use Rattle.document_check.specs.Checked.{max_check_bytes, CountsCheck, IsCheckedUnder, IsCheckedBehind}
 use Rattle.document_lines.specs.Reading.{PlainJudge, IsAt, IsRead, IsReadBehind, ended_claim}
 use Rattle.document_check.specs.Passes.{end_of, IsCheckedFrom, IsReadOn, Goes}
 use Rattle.document_check.proofs.Beginnings.{at_behind}
@@ -49,10 +49,10 @@ at_end_is (Ended claim) n = refl
 module _ (old left : Option (List ℕ)) (before now : FaultCount) (at : Position) (stage : Stage) (next : Lexer)
     (behind : Stage) (count : ℕ) where
   abbrev pub Behind : ReadEnd → Type 0
-  Behind end = IsReadBehind most_document_bytes old left before now at.lexer stage at.count next behind count end
+  Behind end = IsReadBehind max_check_bytes old left before now at.lexer stage at.count next behind count end
 
   ended : (heading : Heading) (front : List ℕ) (first : Option (List ℕ)) (claim : Option Claim)
-      → IsRead heading front most_document_bytes first left before now next behind count End
+      → IsRead heading front max_check_bytes first left before now next behind count End
       → ended_claim behind ≡ claim
       → IsCheckedBehind heading front first left before now (end_of claim next.number)
   ended heading front first (Some claim) r e = record {
@@ -108,7 +108,7 @@ module _ (old left : Option (List ℕ)) (before now : FaultCount) (at : Position
 
 -- memory was refused between two lines
 pub memory_here : (old : Option (List ℕ)) (faults : FaultCount) (at : Position) (stage : Stage)
-    → at.count ≤ most_document_bytes → IsCheckedFrom old old faults faults at stage NoMemory
+    → at.count ≤ max_check_bytes → IsCheckedFrom old old faults faults at stage NoMemory
 memory_here old faults at stage few heading front first taking = record {
   taken = taking.taken;
   begins = taking.begins;

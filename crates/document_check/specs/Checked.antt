@@ -2,7 +2,7 @@
 use Rattle.std.specs.Prelude.{ℕ, ◌+◌, ◌≤◌, ◌≡◌, List, length, take, Option, Ok, Err}
 use Rattle.std.specs.Io.KnownBytes.{IsAtEnd}
 use Rattle.pack_streams.specs.Faults.{FaultCount, Stays, FailedOnce}
-use Rattle.pack_streams.specs.Moves.{Gives}
+use Rattle.pack_streams.specs.Moves.{Consumed}
 use Rattle.verdict_terms.specs.declared.heading.Heading.{Heading}
 use Rattle.verdict_terms.specs.declared.heading.Heading.TheVariants.{Answer}
 use Rattle.verdict_terms.specs.Documents.{headed_verdict}
@@ -14,23 +14,23 @@ use Rattle.document_check.specs.declared.check.CheckEnd.{CheckEnd}
 use Rattle.document_check.specs.declared.check.CheckEnd.TheVariants.{Verified, Refused, TooLong, ReadFault, NoMemory}
 
 -- the most bytes that are read: 2 ^ 40
-abbrev pub most_document_bytes : ℕ
-most_document_bytes = 1099511627776
+abbrev pub max_check_bytes : ℕ
+max_check_bytes = 1099511627776
 
 -- Verified: the whole input is a document of the claim. Refused: by the bytes taken, of which none
 -- stands behind the refused line. Too long, by one byte, or a read fault: no line that was whole
 -- before is refused. Want of memory is the one free answer, and no line is refused before it.
 abbrev pub Comes : Heading → Option (List ℕ) → List ℕ → CheckEnd → Type 0
 Comes heading left taken (Verified claim) =
-    (headed_verdict heading taken ≡ Ok claim) × (length taken ≤ most_document_bytes) × IsAtEnd left
+    (headed_verdict heading taken ≡ Ok claim) × (length taken ≤ max_check_bytes) × IsAtEnd left
 Comes heading left taken (Refused line reason) =
     (headed_verdict heading taken ≡ Err (record { line = line; reason = reason }))
-    × (length taken ≤ most_document_bytes)
+    × (length taken ≤ max_check_bytes)
     × AreEnoughUnder heading left taken (record { line = line; reason = reason })
 Comes heading left taken TooLong =
-    (length taken ≡ most_document_bytes + 1) × NoneRefusedUnder heading (take most_document_bytes taken)
-Comes heading left taken ReadFault = (length taken ≤ most_document_bytes) × NoneRefusedUnder heading taken
-Comes heading left taken NoMemory = (length taken ≤ most_document_bytes) × NoneBeforeUnder heading taken
+    (length taken ≡ max_check_bytes + 1) × NoneRefusedUnder heading (take max_check_bytes taken)
+Comes heading left taken ReadFault = (length taken ≤ max_check_bytes) × NoneRefusedUnder heading taken
+Comes heading left taken NoMemory = (length taken ≤ max_check_bytes) × NoneBeforeUnder heading taken
 
 -- the count of faults of the source: by an exact one, the first read that fails is the last
 abbrev pub CountsCheck : FaultCount → FaultCount → CheckEnd → Type 0
@@ -44,7 +44,7 @@ CountsCheck before now NoMemory = Stays before now
 pub record IsCheckedUnder (heading : Heading) (old left : Option (List ℕ)) (before now : FaultCount)
     (result : CheckEnd) : Type 0 where
   pub taken : List ℕ
-  pub gives : Gives old left taken
+  pub gives : Consumed old left taken
   pub faults : CountsCheck before now result
   pub comes : Comes heading left taken result
 
@@ -57,7 +57,7 @@ pub record IsCheckedBehind (heading : Heading) (front : List ℕ) (old left : Op
     (result : CheckEnd) : Type 0 where
   pub taken : List ℕ
   pub begins : Begins front taken
-  pub gives : Gives old left taken
+  pub gives : Consumed old left taken
   pub faults : CountsCheck before now result
   pub comes : Comes heading left taken result
 

@@ -10,12 +10,12 @@ use Rattle.document_lines.specs.declared.head.Claimed.{Claimed}
 use Rattle.document_check.specs.declared.check.CheckEnd.{CheckEnd}
 use Rattle.document_check.specs.declared.check.CheckEnd.TheVariants.{Verified, Refused}
 use Rattle.document_check.specs.declared.position.Position.{Position}
-use Rattle.document_check.specs.Checked.{most_document_bytes, IsRestChecked}
+use Rattle.document_check.specs.Checked.{max_check_bytes, IsRestChecked}
 use Rattle.document_lines.specs.Reading.{IsTaking}
 
 -- no more lines ended than bytes were taken, and not too many of them
 abbrev pub IsPosition : Position → Type 0
-IsPosition at = (at.lexer.number ≤ at.count) × (at.count ≤ most_document_bytes)
+IsPosition at = (at.lexer.number ≤ at.count) × (at.count ≤ max_check_bytes)
 
 -- what the end of the text comes to after n lines
 abbrev pub end_of : Option Claim → ℕ → CheckEnd

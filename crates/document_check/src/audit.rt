@@ -3,7 +3,7 @@ ghost use Rattle.std.specs.Prelude.{◌≡◌, ◌≤◌, ◌<◌, length};
 ghost use Rattle.pack_streams.specs.Faults.{exactly};
 ghost use Rattle.pack_streams.specs.Moves.{ReadsPiece, CountsRead};
 ghost use Rattle.document_check.specs.Audited.{IsAudited, IsTrueAudit};
-ghost use Rattle.document_check.specs.Checked.{most_document_bytes};
+ghost use Rattle.document_check.specs.Checked.{max_check_bytes};
 
 use crate::check::{CheckEnd, check_document};
 use document_terms::Claim;
@@ -75,7 +75,7 @@ impl<'a> Source for BytesSource<'a> {
 /// verified is true. Want of memory is the one other answer. There are at most 1,099,511,627,776
 /// bytes.
 pub fn audit_document(alloc: Global, heading: Heading, bytes: &[u8]) -> Audit
-    requires { length bytes.now ≤ most_document_bytes }
+    requires { length bytes.now ≤ max_check_bytes }
     ensures audited { IsAudited heading bytes.now result }
     ensures truth { IsTrueAudit heading bytes.now result }
 {

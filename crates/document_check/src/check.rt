@@ -3,7 +3,7 @@ ghost use Rattle.std.specs.Prelude.{◌≡◌, ◌≤◌, true};
 ghost use Rattle.text_terms.specs.Texts.{no_parts};
 ghost use Rattle.verdict_terms.specs.Stages.{claimed};
 ghost use Rattle.verdict_terms.specs.Stages.Stage.{Reading};
-ghost use Rattle.document_check.specs.Checked.{IsCheckedUnder, IsRestChecked, most_document_bytes};
+ghost use Rattle.document_check.specs.Checked.{IsCheckedUnder, IsRestChecked, max_check_bytes};
 ghost use Rattle.document_check.specs.Passes.{IsPosition, IsCheckedFrom};
 ghost use Rattle.document_lines.specs.Ranges.{IsRanged};
 
@@ -122,7 +122,7 @@ pub fn check_rest<S: Source>(
     input: &mut S,
 ) -> CheckEnd
     requires number { lexer.number ≤ count }
-    requires few { count ≤ most_document_bytes }
+    requires few { count ≤ max_check_bytes }
     ensures { IsRestChecked (S.left input.old) (S.left input.new) (S.faults input.old)
         (S.faults input.new) lexer (Reading heading job no_parts) count result }
 {

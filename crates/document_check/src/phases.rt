@@ -1,12 +1,12 @@
 //! The rest of a document behind its result line, phase by phase.
 ghost use Rattle.std.specs.Prelude.{◌≡◌, ◌≤◌, true, Some, [], ◌∷◌, IfOk};
 ghost use Rattle.packing_terms.specs.Packing.{dims, box_count};
-ghost use Rattle.packing_terms.specs.Limits.{most_height};
+ghost use Rattle.packing_terms.specs.Limits.{max_height};
 ghost use Rattle.packing_terms.specs.Goals.{with_last_side};
 ghost use Rattle.packing_terms.specs.Exclusions.{AreAtEdges};
 ghost use Rattle.packing_terms.specs.Scales.{SidesFit};
 ghost use Rattle.verdict_terms.specs.declared.heading.Heading.TheVariants.{Answer};
-ghost use Rattle.verdict_terms.specs.Stages.{proving, placed, to_refute, claimed, start_exclusions};
+ghost use Rattle.verdict_terms.specs.Stages.{proving, placed, refutation_goal, claimed, start_exclusions};
 ghost use Rattle.verdict_terms.specs.Stages.Stage.{Placing, Sharing, Taking, Proving, Refuting, Exceeding, Ending};
 ghost use Rattle.verdict_terms.specs.Trees.Tree.{InnerTree};
 ghost use Rattle.verdict_terms.specs.Trees.{begun, tree_dims, ToFit, ToFitIn, ToReach};
@@ -277,13 +277,13 @@ fn check_placed<S: Source>(
     requires edges { AreAtEdges lower.now
         (start_exclusions head.now.heading head.now.instance) }
     requires says { placed head.now.heading head.now.claim
-        (to_refute head.now.heading head.now.instance head.now.claim)
+        (refutation_goal head.now.heading head.now.instance head.now.claim)
         ≡ proving head.now.heading head.now.claim
         (ToFit lower.now (start_exclusions head.now.heading head.now.instance)) }
     ensures { IsCheckedFrom (S.left input.old) (S.left input.new) (S.faults input.old)
         (S.faults input.new)
         at.old (Placing head.now.heading held.now head.now.claim
-        (to_refute head.now.heading head.now.instance head.now.claim) []) result }
+        (refutation_goal head.now.heading head.now.instance head.now.claim) []) result }
 {
     match read_places(alloc, input, at, head, held) {
         Some(end) => end,
@@ -301,17 +301,17 @@ pub(crate) fn check_heights<S: Source>(
     refuted: u32,
 ) -> CheckEnd
     requires at { IsPosition at.old }
-    requires high { reached ≤ most_height }
-    requires low { refuted ≤ most_height }
+    requires high { reached ≤ max_height }
+    requires low { refuted ≤ max_height }
     requires says { placed head.now.heading head.now.claim
-        (to_refute head.now.heading head.now.instance head.now.claim)
+        (refutation_goal head.now.heading head.now.instance head.now.claim)
         ≡ proving head.now.heading head.now.claim
         (ToFit (with_last_side head.now.instance refuted)
         (start_exclusions head.now.heading head.now.instance)) }
     ensures { IsCheckedFrom (S.left input.old) (S.left input.new) (S.faults input.old)
         (S.faults input.new)
         at.old (Placing head.now.heading (with_last_side head.now.instance reached) head.now.claim
-        (to_refute head.now.heading head.now.instance head.now.claim) []) result }
+        (refutation_goal head.now.heading head.now.instance head.now.claim) []) result }
 {
     // For the proof alone: tells that there is a last dimension.
     let _some_dims = head.instance.dims();
@@ -358,7 +358,7 @@ pub(crate) fn check_bins<S: Source>(
 ) -> CheckEnd
     requires at { IsPosition at.old }
     requires few { refuted ≤ box_count instance.now }
-    requires says { placed Answer claim (to_refute Answer instance.now claim)
+    requires says { placed Answer claim (refutation_goal Answer instance.now claim)
         ≡ Proving claim (ToFitIn instance.now refuted) }
     ensures { IsCheckedFrom (S.left input.old) (S.left input.new) (S.faults input.old)
         (S.faults input.new)

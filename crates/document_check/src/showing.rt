@@ -2,7 +2,7 @@
 ghost use Rattle.std.specs.Prelude.{◌≡◌, ◌≤◌, true, None, Some, [], IfOk};
 ghost use Rattle.packing_terms.specs.Packing.{dims};
 ghost use Rattle.verdict_terms.specs.declared.heading.Heading.TheVariants.{Answer};
-ghost use Rattle.verdict_terms.specs.Stages.{placed, to_refute, value_stage};
+ghost use Rattle.verdict_terms.specs.Stages.{placed, refutation_goal, value_stage};
 ghost use Rattle.verdict_terms.specs.Stages.Stage.{Beginning, Placing, Sharing, Taking, Exceeding, Ending};
 ghost use Rattle.document_check.specs.Passes.{IsPosition, Goes, GoesBehind};
 ghost use Rattle.document_lines.specs.Ranges.{IsRanged};
@@ -11,7 +11,9 @@ ghost use Rattle.document_lines.specs.Sharings.{HaveSides};
 use crate::check::CheckEnd;
 use crate::position::{Position, give_lines};
 use box_instances::Instance;
-use document_lines::{Claimed, ExceedingReader, HeadReader, PlaceReader, ShareReader, TakeReader};
+use document_lines::{
+    BinPlaceReader, Claimed, HeadReader, OversizeReader, PlaceReader, TakenReader,
+};
 use document_terms::Claim;
 use pack_streams::Source;
 use std::alloc::Global;
@@ -54,9 +56,9 @@ pub(crate) fn read_places<S: Source>(
     ensures goes { Goes (S.left input.old) (S.left input.new) (S.faults input.old)
         (S.faults input.new)
         at.old (Placing head.now.heading held.now head.now.claim
-        (to_refute head.now.heading head.now.instance head.now.claim) []) at.new
+        (refutation_goal head.now.heading head.now.instance head.now.claim) []) at.new
         (placed head.now.heading head.now.claim
-        (to_refute head.now.heading head.now.instance head.now.claim))
+        (refutation_goal head.now.heading head.now.instance head.now.claim))
         result }
 {
     let mut judge = PlaceReader::new(alloc, head.heading, &head.instance, held, head.claim);
@@ -74,13 +76,13 @@ pub(crate) fn read_shares<S: Source>(
 ) -> Option<CheckEnd>
     requires { IsPosition at.old }
     ensures at { result ≡ None → IsPosition at.new }
-    ensures sides { result ≡ None → HaveSides (placed Answer claim (to_refute Answer instance.now claim)) }
+    ensures sides { result ≡ None → HaveSides (placed Answer claim (refutation_goal Answer instance.now claim)) }
     ensures goes { Goes (S.left input.old) (S.left input.new) (S.faults input.old)
         (S.faults input.new)
         at.old (Sharing instance.now claim bin_count [] []) at.new
-        (placed Answer claim (to_refute Answer instance.now claim)) result }
+        (placed Answer claim (refutation_goal Answer instance.now claim)) result }
 {
-    let mut judge = ShareReader::new(alloc, instance, claim, bin_count);
+    let mut judge = BinPlaceReader::new(alloc, instance, claim, bin_count);
     let end = give_lines(input, at, &mut judge);
     // For the proof alone: tells that no side exceeds the container's where all bins were taken.
     let _are_shared = judge.are_shared();
@@ -102,7 +104,7 @@ pub(crate) fn read_taken<S: Source>(
         at.old (Taking head.now.heading head.now.instance head.now.claim value [] []) at.new
         (value_stage head.now.heading head.now.instance head.now.claim) result }
 {
-    let mut judge = TakeReader::new(alloc, head.heading, &head.instance, head.claim, value);
+    let mut judge = TakenReader::new(alloc, head.heading, &head.instance, head.claim, value);
     give_lines(input, at, &mut judge)
 }
 
@@ -124,6 +126,6 @@ pub(crate) fn read_exceeding<S: Source>(
         at.old (Exceeding instance.now claim dim_count) at.new
         (Ending claim (Some (dims instance.now))) result }
 {
-    let mut judge = ExceedingReader::new(alloc, instance, claim, dim_count);
+    let mut judge = OversizeReader::new(alloc, instance, claim, dim_count);
     give_lines(input, at, &mut judge)
 }

@@ -1,8 +1,8 @@
 -- The claim of a result line, by how many words it has.
 use Rattle.std.proofs.Common.{◌≡◌, ℕ, ◌≤◌, refl, arith, List, [], ◌∷◌, length, get_or, Err, codes}
 use Rattle.packing_terms.specs.Packing.{PlainInstance, box_count}
-use Rattle.packing_terms.specs.Limits.{most_height}
-use Rattle.document_terms.specs.Claims.{most_worth}
+use Rattle.packing_terms.specs.Limits.{max_height}
+use Rattle.document_terms.specs.Claims.{max_worth}
 use Rattle.document_terms.specs.declared.claim.Claim.TheVariants.{NoHeight, LeastHeight, HeightBetween, NoBins}
 use Rattle.document_terms.specs.declared.claim.Claim.TheVariants.{LeastBins, BinsBetween, GreatestValue, ValueBetween}
 use Rattle.document_terms.specs.declared.claim.SolvingJob.{SolvingJob}
@@ -22,7 +22,7 @@ module _ (instance : PlainInstance) where
   strip_none (a ∷ b ∷ c ∷ ws) e = absurd (omega (arith, e))
 
   pub strip_least : (ws : List (List ℕ)) → length ws ≡ 3
-      → one_claim (codes "least") 1 most_height LeastHeight (get_or ws 1 []) (get_or ws 2 [])
+      → one_claim (codes "least") 1 max_height LeastHeight (get_or ws 1 []) (get_or ws 2 [])
       ≡ claim_of Strip instance (rest_of ws)
   unfolding claim_of
   strip_least [] e = absurd (omega (arith, e))
@@ -32,7 +32,7 @@ module _ (instance : PlainInstance) where
   strip_least (a ∷ b ∷ c ∷ d ∷ ws) e = absurd (omega (arith, e))
 
   pub strip_between : (ws : List (List ℕ)) → length ws ≡ 4
-      → two_claim most_height HeightBetween (get_or ws 1 []) (get_or ws 2 []) (get_or ws 3 [])
+      → two_claim max_height HeightBetween (get_or ws 1 []) (get_or ws 2 []) (get_or ws 3 [])
       ≡ claim_of Strip instance (rest_of ws)
   unfolding claim_of
   strip_between [] e = absurd (omega (arith, e))
@@ -72,7 +72,7 @@ module _ (instance : PlainInstance) where
   bins_between (a ∷ b ∷ c ∷ d ∷ x ∷ ws) e = absurd (omega (arith, e))
 
   pub value_greatest : (ws : List (List ℕ)) → length ws ≡ 3
-      → one_claim (codes "greatest") 0 most_worth GreatestValue (get_or ws 1 []) (get_or ws 2 [])
+      → one_claim (codes "greatest") 0 max_worth GreatestValue (get_or ws 1 []) (get_or ws 2 [])
       ≡ claim_of Knapsack instance (rest_of ws)
   unfolding claim_of
   value_greatest [] e = absurd (omega (arith, e))
@@ -82,7 +82,7 @@ module _ (instance : PlainInstance) where
   value_greatest (a ∷ b ∷ c ∷ d ∷ ws) e = absurd (omega (arith, e))
 
   pub value_between : (ws : List (List ℕ)) → length ws ≡ 4
-      → two_claim most_worth ValueBetween (get_or ws 1 []) (get_or ws 2 []) (get_or ws 3 [])
+      → two_claim max_worth ValueBetween (get_or ws 1 []) (get_or ws 2 []) (get_or ws 3 [])
       ≡ claim_of Knapsack instance (rest_of ws)
   unfolding claim_of
   value_between [] e = absurd (omega (arith, e))

@@ -14,7 +14,7 @@ use Rattle.document_terms.specs.declared.claim.Claim.{Claim}
 use Rattle.verdict_terms.specs.declared.heading.Heading.TheVariants.{Answer}
 use Rattle.verdict_terms.specs.declared.reason.Reason.{Reason}
 use Rattle.verdict_terms.specs.Numbers.{coordinates}
-use Rattle.verdict_terms.specs.Stages.{Stage, placed, to_refute, refused_by, bins_reason, share_line}
+use Rattle.verdict_terms.specs.Stages.{Stage, placed, refutation_goal, refused_by, bins_reason, share_line}
 use Rattle.verdict_terms.specs.Stages.Stage.{Sharing}
 use Rattle.verdict_terms.proofs.BinsGood.{bins_good}
 use Rattle.document_lines.specs.Sharings.{AreShares, shared_by}
@@ -35,17 +35,17 @@ module _ (instance : PlainInstance) (k : ℕ) (bins places : List ℕ) where
 
   -- what the last line comes to
   pub tested : length bins ≡ box_count instance → bins_reason instance k bins places ≡ None
-      → (claim : Claim) → shared_by instance claim k bins places ≡ Ok (placed Answer claim (to_refute Answer instance claim))
+      → (claim : Claim) → shared_by instance claim k bins places ≡ Ok (placed Answer claim (refutation_goal Answer instance claim))
   tested count good claim = by (length bins == box_count instance) (eq-eqb _ _ count)
       (bins_reason instance k bins places) good
     where
       by : (t : Bool) → t ≡ true → (r : Option Reason) → r ≡ None
           → ◌≡◌ {A = Result Stage Reason}
           (elim t [
-            | true ↦ refused_by r (Ok (placed Answer claim (to_refute Answer instance claim)))
+            | true ↦ refused_by r (Ok (placed Answer claim (refutation_goal Answer instance claim)))
             | false ↦
                 Ok (Sharing instance claim k bins places)
-          ]) (Ok (placed Answer claim (to_refute Answer instance claim)))
+          ]) (Ok (placed Answer claim (refutation_goal Answer instance claim)))
       by true e None f = refl
       by true e (Some x) f = absurd (cc (f))
       by false e r f = absurd (cc (e))

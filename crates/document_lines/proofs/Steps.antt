@@ -7,7 +7,7 @@ use Rattle.std.specs.Io.KnownBytes.{IsAtEnd}
 use Rattle.std.proofs.lemmas.Bool.{eqb-true}
 use Rattle.std.proofs.lemmas.List.{length-append, take_at, take-append-drop}
 use Rattle.std.proofs.lemmas.List.Splits.{length-slice_split}
-use Rattle.pack_streams.specs.Moves.{Gives}
+use Rattle.pack_streams.specs.Moves.{Consumed}
 use Rattle.text_terms.specs.Lines.{is_line_feed, text_lines, drop_empty_end}
 use Rattle.packing_terms.specs.Results.{◌>>=◌}
 use Rattle.text_terms.specs.Feeding.{Lexer, new_lexer, end_line as end_line_step, add_byte, held_of, feed, finish}
@@ -33,7 +33,7 @@ use Rattle.document_lines.specs.Reading.{IsSoFar, Begins, IsTaking, TakesByte, T
 
 -- ---- bytes of a source
 
-pub gives_none : (old : Option (List ℕ)) → Gives old old []
+pub gives_none : (old : Option (List ℕ)) → Consumed old old []
 gives_none None = refl
 gives_none (Some xs) = refl
 
@@ -207,9 +207,9 @@ none_before_one heading s stage taken b h =
 -- ---- how the reading ends
 
 -- one byte was read
-pub one_byte : (mid now : Option (List ℕ)) (k b : ℕ) → ReadsPiece mid now (Got k) (b ∷ []) → Gives mid now (b ∷ [])
+pub one_byte : (mid now : Option (List ℕ)) (k b : ℕ) → ReadsPiece mid now (Got k) (b ∷ []) → Consumed mid now (b ∷ [])
 one_byte mid now k b reads = let one : k ≡ 1 = let l = reads.0 in let m = reads.1 in omega (arith, l, m) in
-    subst (λ j. Gives mid now (take j (b ∷ []))) one reads.2
+    subst (λ j. Consumed mid now (take j (b ∷ []))) one reads.2
 
 -- a piece of one byte
 pub single : (xs : List ℕ) → length xs ≡ 1 → xs ≡ get_or xs 0 0 ∷ []
@@ -232,7 +232,7 @@ module _ (heading : Heading) (front : List ℕ) (limit m : ℕ) (old mid now : O
   ends_here piece new next End few reads ends = record {
     taken = so_far.taken;
     begins = so_far.begins;
-    gives = subst (λ x. Gives old x so_far.taken) (sym reads.1) so_far.gives;
+    gives = subst (λ x. Consumed old x so_far.taken) (sym reads.1) so_far.gives;
     faults = stays;
     ends = (
       subst IsAtEnd (sym reads.1) reads.0,
@@ -244,7 +244,7 @@ module _ (heading : Heading) (front : List ℕ) (limit m : ℕ) (old mid now : O
   ends_here piece new next (Refused reason) few reads ends = record {
     taken = so_far.taken;
     begins = so_far.begins;
-    gives = subst (λ x. Gives old x so_far.taken) (sym reads.1) so_far.gives;
+    gives = subst (λ x. Consumed old x so_far.taken) (sym reads.1) so_far.gives;
     faults = stays;
     ends = (
       ap (headed_verdict heading) (sym (append-nil so_far.taken)) ∙ sym (so_far.so_far.goes []) ∙ ends,
@@ -258,19 +258,19 @@ module _ (heading : Heading) (front : List ℕ) (limit m : ℕ) (old mid now : O
   ends_here piece new next NoMemory few reads ends = record {
     taken = so_far.taken;
     begins = so_far.begins;
-    gives = subst (λ x. Gives old x so_far.taken) (sym reads.1) so_far.gives;
+    gives = subst (λ x. Consumed old x so_far.taken) (sym reads.1) so_far.gives;
     faults = stays;
     ends = ((let c = so_far.counted in omega (arith, c, few)), none_before heading s stage so_far.taken so_far.so_far);
   }
 
   -- a byte, in a piece of one byte
   one_read : (k : ℕ) (piece : List ℕ) → length piece ≡ 1 → ReadsPiece mid now (Got k) piece
-      → Gives mid now (get_or piece 0 0 ∷ [])
+      → Consumed mid now (get_or piece 0 0 ∷ [])
   one_read k piece e reads = one_byte mid now k (get_or piece 0 0)
       (subst (λ p. ReadsPiece mid now (Got k) p) (single piece e) reads)
 
   gives_one : (k : ℕ) (piece : List ℕ) → length piece ≡ 1 → ReadsPiece mid now (Got k) piece
-      → Gives old now (so_far.taken ++ get_or piece 0 0 ∷ [])
+      → Consumed old now (so_far.taken ++ get_or piece 0 0 ∷ [])
   gives_one k piece e reads = gives_more old mid now so_far.taken (get_or piece 0 0 ∷ []) so_far.gives
       (one_read k piece e reads)
 
@@ -368,7 +368,7 @@ pub fails_here : (heading : Heading) (front : List ℕ) (limit m : ℕ) (old mid
 fails_here heading front limit m old mid now before after s stage n so_far once few same = record {
   taken = so_far.taken;
   begins = so_far.begins;
-  gives = subst (λ x. Gives old x so_far.taken) (sym same) so_far.gives;
+  gives = subst (λ x. Consumed old x so_far.taken) (sym same) so_far.gives;
   faults = once;
   ends = ((let c = so_far.counted in omega (arith, c, few)), none_refused heading s stage so_far.taken so_far.so_far);
 }

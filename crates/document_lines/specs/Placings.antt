@@ -4,7 +4,7 @@ use Rattle.packing_terms.specs.Packing.{PlainInstance}
 use Rattle.document_terms.specs.declared.claim.Claim.{Claim}
 use Rattle.verdict_terms.specs.declared.heading.Heading.{Heading}
 use Rattle.verdict_terms.specs.Numbers.{coordinates}
-use Rattle.verdict_terms.specs.Stages.{Stage, placed, to_refute}
+use Rattle.verdict_terms.specs.Stages.{Stage, placed, refutation_goal}
 use Rattle.verdict_terms.specs.Stages.Stage.{Placing}
 use Rattle.document_lines.specs.declared.judge.LineStop.{LineStop}
 use Rattle.document_lines.specs.declared.judge.LineStop.TheVariants.{Refused, NoMemory}
@@ -17,6 +17,6 @@ TakesCoordinates places numbers new (Err NoMemory) = new ≡ places
 
 -- the places so far, in a container that may have another last side, and behind them all
 abbrev pub place_stage : Heading → PlainInstance → PlainInstance → Claim → List ℕ → Bool → Stage
-place_stage heading instance held claim places true = placed heading claim (to_refute heading instance claim)
+place_stage heading instance held claim places true = placed heading claim (refutation_goal heading instance claim)
 place_stage heading instance held claim places false =
-    Placing heading held claim (to_refute heading instance claim) places
+    Placing heading held claim (refutation_goal heading instance claim) places

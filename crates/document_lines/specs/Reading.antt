@@ -4,7 +4,7 @@ use Rattle.std.specs.Prelude.{None, Result, Ok, Err}
 use Rattle.std.specs.List.{slice_split}
 use Rattle.std.specs.Io.KnownBytes.{IsAtEnd}
 use Rattle.pack_streams.specs.Faults.{FaultCount, Stays, FailedOnce}
-use Rattle.pack_streams.specs.Moves.{Gives}
+use Rattle.pack_streams.specs.Moves.{Consumed}
 use Rattle.text_terms.specs.Lines.{is_line_feed}
 use Rattle.text_terms.specs.Feeding.{Lexer, ended_line, feed}
 use Rattle.document_terms.specs.declared.claim.Claim.{Claim}
@@ -51,7 +51,7 @@ pub record IsTaking (heading : Heading) (front : List ℕ) (old now : Option (Li
     (count : ℕ) : Type 0 where
   pub taken : List ℕ
   pub begins : Begins front taken
-  pub gives : Gives old now taken
+  pub gives : Consumed old now taken
   pub counted : length taken ≡ count
   pub so_far : IsSoFar heading s stage taken
 
@@ -99,7 +99,7 @@ pub record IsRead (heading : Heading) (front : List ℕ) (limit : ℕ) (old left
     (before now : FaultCount) (s : Lexer) (stage : Stage) (count : ℕ) (result : ReadEnd) : Type 0 where
   pub taken : List ℕ
   pub begins : Begins front taken
-  pub gives : Gives old left taken
+  pub gives : Consumed old left taken
   pub faults : CountsLines before now result
   pub ends : EndsAs heading limit left taken s stage count result
 

@@ -11,7 +11,7 @@ use Rattle.document_terms.specs.declared.claim.Claim.{Claim}
 use Rattle.verdict_terms.specs.declared.heading.Heading.TheVariants.{Answer}
 use Rattle.verdict_terms.specs.declared.reason.Reason.{Reason}
 use Rattle.verdict_terms.specs.declared.reason.Reason.TheVariants.{OutsideAt}
-use Rattle.verdict_terms.specs.Stages.{Stage, placed, to_refute, refused_by, bins_reason, share_line}
+use Rattle.verdict_terms.specs.Stages.{Stage, placed, refutation_goal, refused_by, bins_reason, share_line}
 use Rattle.verdict_terms.specs.Stages.Stage.{Sharing, Proving}
 use Rattle.verdict_terms.specs.Trees.{ToFitIn}
 use Rattle.document_lines.specs.declared.judge.LineStop.{LineStop}
@@ -44,14 +44,14 @@ pub record IsShared (instance : PlainInstance) (k : ℕ) (bins places : List ℕ
 
 -- the bins so far, and behind them all
 abbrev pub share_stage : PlainInstance → Claim → ℕ → List ℕ → List ℕ → Bool → Stage
-share_stage instance claim k bins places true = placed Answer claim (to_refute Answer instance claim)
+share_stage instance claim k bins places true = placed Answer claim (refutation_goal Answer instance claim)
 share_stage instance claim k bins places false = Sharing instance claim k bins places
 
 -- behind a line that was taken: at the last one the places are tested
 abbrev pub shared_by : PlainInstance → Claim → ℕ → List ℕ → List ℕ → Result Stage Reason
 shared_by instance claim k bins places =
     elim (length bins == box_count instance) [
-      | true ↦ refused_by (bins_reason instance k bins places) (Ok (placed Answer claim (to_refute Answer instance claim)))
+      | true ↦ refused_by (bins_reason instance k bins places) (Ok (placed Answer claim (refutation_goal Answer instance claim)))
       | false ↦ Ok (Sharing instance claim k bins places)
     ]
 
@@ -67,7 +67,7 @@ TakesShare instance k bins places numbers more_bins more_places (Err NoMemory) =
 -- whether these are the bins of all boxes, tested; or why they are refused
 abbrev pub TestsShares : PlainInstance → ℕ → List ℕ → List ℕ → Result Bool LineStop → Type 0
 TestsShares instance k bins places (Ok true) =
-    ((claim : Claim) → shared_by instance claim k bins places ≡ Ok (placed Answer claim (to_refute Answer instance claim)))
+    ((claim : Claim) → shared_by instance claim k bins places ≡ Ok (placed Answer claim (refutation_goal Answer instance claim)))
     × SidesFit instance
 TestsShares instance k bins places (Ok false) =
     (claim : Claim) → shared_by instance claim k bins places ≡ Ok (Sharing instance claim k bins places)

@@ -2,8 +2,8 @@
 ghost use Rattle.std.specs.Prelude.{◌≡◌, ◌≤◌, ◌<◌, ℕ, ◌^◌, drop, length, codes, IfOk, slice_index_or, [], Ok};
 ghost use Rattle.std.specs.declared.result.Result.{Result};
 ghost use Rattle.packing_terms.specs.Packing.{PlainInstance};
-ghost use Rattle.packing_terms.specs.Limits.{most_height};
-ghost use Rattle.document_terms.specs.Claims.{most_worth};
+ghost use Rattle.packing_terms.specs.Limits.{max_height};
+ghost use Rattle.document_terms.specs.Claims.{max_worth};
 ghost use Rattle.document_terms.specs.declared.claim.Claim.{Claim as PlainClaim};
 ghost use Rattle.document_terms.specs.declared.claim.Claim.TheVariants.{LeastHeight, HeightBetween, LeastBins, BinsBetween, GreatestValue, ValueBetween};
 ghost use Rattle.document_terms.specs.declared.claim.SolvingJob.TheVariants.{Fit, Strip, Bins, Knapsack};
@@ -114,7 +114,7 @@ fn claimed_fit(word: &[u8]) -> Result<Claim, Reason>
 // What `strip` claims of two words.
 fn least_height(line: &LineLexer) -> Result<Claim, Reason>
     requires { 3 ≤ length line.now.held.words }
-    ensures { result ≡ one_claim (codes "least") 1 most_height LeastHeight
+    ensures { result ≡ one_claim (codes "least") 1 max_height LeastHeight
         (slice_index_or line.now.held.words 1 []) (slice_index_or line.now.held.words 2 []) }
 {
     let height = one_number(line, b"least", 1, MOST_HEIGHT)?;
@@ -126,7 +126,7 @@ fn least_height(line: &LineLexer) -> Result<Claim, Reason>
 // What `strip` claims of three words.
 fn height_between(line: &LineLexer) -> Result<Claim, Reason>
     requires { 4 ≤ length line.now.held.words }
-    ensures { result ≡ two_claim most_height HeightBetween (slice_index_or line.now.held.words 1 [])
+    ensures { result ≡ two_claim max_height HeightBetween (slice_index_or line.now.held.words 1 [])
         (slice_index_or line.now.held.words 2 []) (slice_index_or line.now.held.words 3 []) }
 {
     let (refuted, placed) = two_numbers(line, MOST_HEIGHT)?;
@@ -199,7 +199,7 @@ fn bins_claim(instance: &Instance, line: &LineLexer) -> Result<Claim, Reason>
 // What `knapsack` claims of two words.
 fn greatest_value(line: &LineLexer) -> Result<Claim, Reason>
     requires { 3 ≤ length line.now.held.words }
-    ensures { result ≡ one_claim (codes "greatest") 0 most_worth GreatestValue
+    ensures { result ≡ one_claim (codes "greatest") 0 max_worth GreatestValue
         (slice_index_or line.now.held.words 1 []) (slice_index_or line.now.held.words 2 []) }
 {
     let value = one_number(line, b"greatest", 0, MOST_WORTH)?;
@@ -209,7 +209,7 @@ fn greatest_value(line: &LineLexer) -> Result<Claim, Reason>
 // What `knapsack` claims of three words.
 fn value_between(line: &LineLexer) -> Result<Claim, Reason>
     requires { 4 ≤ length line.now.held.words }
-    ensures { result ≡ two_claim most_worth ValueBetween (slice_index_or line.now.held.words 1 [])
+    ensures { result ≡ two_claim max_worth ValueBetween (slice_index_or line.now.held.words 1 [])
         (slice_index_or line.now.held.words 2 []) (slice_index_or line.now.held.words 3 []) }
 {
     let (placed, refuted) = two_numbers(line, MOST_WORTH)?;

@@ -78,7 +78,7 @@ fn test_line(
 ///
 /// It takes lines up to the token.
 #[derive(Drop)]
-pub struct ExceedingReader<'a> {
+pub struct OversizeReader<'a> {
     alloc: Global,
     instance: &'a Instance,
     claim: Claim,
@@ -86,7 +86,7 @@ pub struct ExceedingReader<'a> {
     is_whole: bool,
 }
 
-impl<'a> Model for ExceedingReader<'a> {
+impl<'a> Model for OversizeReader<'a> {
     ghost use Rattle.std.specs.Prelude.{◌≤◌};
     ghost use Rattle.packing_terms.specs.Packing.{dims};
     ghost use Rattle.std.specs.Prelude.{not, Some};
@@ -105,14 +105,14 @@ impl<'a> Model for ExceedingReader<'a> {
     ghost invariant = { λ e. e.dim_count ≤ dims e.instance.now };
 }
 
-impl<'a> ExceedingReader<'a> {
+impl<'a> OversizeReader<'a> {
     /// The token is wanted.
     pub fn new(
         alloc: Global,
         instance: &'a Instance,
         claim: Claim,
         dim_count: u32,
-    ) -> ExceedingReader<'a>
+    ) -> OversizeReader<'a>
         requires { dim_count ≤ dims instance.now }
         ensures { result ≡ record {
           stage = Exceeding instance.now claim dim_count;
@@ -120,7 +120,7 @@ impl<'a> ExceedingReader<'a> {
           behind = Some (Ending claim (Some (dims instance.now)));
         } }
     {
-        ExceedingReader {
+        OversizeReader {
             alloc,
             instance,
             claim,
@@ -130,7 +130,7 @@ impl<'a> ExceedingReader<'a> {
     }
 }
 
-impl<'a> LineJudge for ExceedingReader<'a> {
+impl<'a> LineJudge for OversizeReader<'a> {
     ghost stage = { λ j. j.stage };
 
     ghost takes = { λ j. j.takes };

@@ -3,7 +3,7 @@ ghost use Rattle.std.specs.Prelude.{◌≡◌, ◌*◌, ◌≤◌, ◌++◌, len
 ghost use Rattle.packing_terms.specs.Packing.{dims, box_count};
 ghost use Rattle.text_terms.specs.Feeding.{ended_line};
 ghost use Rattle.verdict_terms.specs.Numbers.{are_coordinates};
-ghost use Rattle.verdict_terms.specs.Stages.{placed, to_refute, places_reason};
+ghost use Rattle.verdict_terms.specs.Stages.{placed, refutation_goal, places_reason};
 ghost use Rattle.verdict_terms.specs.Stages.Stage.{Placing};
 ghost use Rattle.document_lines.specs.Reading.{Judges, IsAt, ended_claim};
 ghost use Rattle.document_lines.specs.Placings.{TakesCoordinates};
@@ -81,7 +81,7 @@ pub struct PlaceReader<'a> {
 
 impl<'a> Model for PlaceReader<'a> {
     ghost use Rattle.std.specs.Prelude.{not, Some};
-    ghost use Rattle.verdict_terms.specs.Stages.{placed, to_refute};
+    ghost use Rattle.verdict_terms.specs.Stages.{placed, refutation_goal};
     ghost use Rattle.document_lines.specs.Reading.{PlainJudge};
     ghost use Rattle.document_lines.specs.Placings.{place_stage};
 
@@ -90,7 +90,7 @@ impl<'a> Model for PlaceReader<'a> {
     ghost view = { λ p. record {
       stage = place_stage p.heading p.instance.now p.held.now p.claim p.places.items p.are_placed;
       takes = not p.are_placed;
-      behind = Some (placed p.heading p.claim (to_refute p.heading p.instance.now p.claim));
+      behind = Some (placed p.heading p.claim (refutation_goal p.heading p.instance.now p.claim));
     } };
 }
 
@@ -104,9 +104,9 @@ impl<'a> PlaceReader<'a> {
         claim: Claim,
     ) -> PlaceReader<'a>
         ensures { result ≡ record {
-          stage = Placing heading held.now claim (to_refute heading instance.now claim) [];
+          stage = Placing heading held.now claim (refutation_goal heading instance.now claim) [];
           takes = true;
-          behind = Some (placed heading claim (to_refute heading instance.now claim));
+          behind = Some (placed heading claim (refutation_goal heading instance.now claim));
         } }
     {
         PlaceReader {

@@ -110,7 +110,7 @@ fn reason_of(
 ///
 /// It takes lines up to `proof`.
 #[derive(Drop)]
-pub struct TakeReader<'a> {
+pub struct TakenReader<'a> {
     alloc: Global,
     heading: Heading,
     instance: &'a Instance,
@@ -121,7 +121,7 @@ pub struct TakeReader<'a> {
     is_taken: bool,
 }
 
-impl<'a> Model for TakeReader<'a> {
+impl<'a> Model for TakenReader<'a> {
     ghost use Rattle.std.specs.Prelude.{not, Some};
     ghost use Rattle.verdict_terms.specs.Stages.{value_stage};
     ghost use Rattle.document_lines.specs.Reading.{PlainJudge};
@@ -138,7 +138,7 @@ impl<'a> Model for TakeReader<'a> {
     ghost invariant = { λ t. AreBoxesTaken t.instance.now t.taken.items t.places.items };
 }
 
-impl<'a> TakeReader<'a> {
+impl<'a> TakenReader<'a> {
     /// No box was taken; they are to be worth so much.
     pub fn new(
         alloc: Global,
@@ -146,14 +146,14 @@ impl<'a> TakeReader<'a> {
         instance: &'a Instance,
         claim: Claim,
         value: u64,
-    ) -> TakeReader<'a>
+    ) -> TakenReader<'a>
         ensures { result ≡ record {
           stage = Taking heading instance.now claim value [] [];
           takes = true;
           behind = Some (value_stage heading instance.now claim);
         } }
     {
-        TakeReader {
+        TakenReader {
             alloc,
             heading,
             instance,
@@ -166,7 +166,7 @@ impl<'a> TakeReader<'a> {
     }
 }
 
-impl<'a> LineJudge for TakeReader<'a> {
+impl<'a> LineJudge for TakenReader<'a> {
     ghost stage = { λ j. j.stage };
 
     ghost takes = { λ j. j.takes };

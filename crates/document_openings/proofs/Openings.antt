@@ -9,7 +9,7 @@ use Rattle.std.proofs.lemmas.List.{length-append, take_at, take_all}
 use Rattle.std.proofs.lemmas.List.Sums.{fold-append}
 use Rattle.std.proofs.lemmas.List.Folds.{list_any-append}
 use Rattle.pack_streams.specs.Faults.{FaultCount, Stays}
-use Rattle.pack_streams.specs.Moves.{Gives, ReadsPiece}
+use Rattle.pack_streams.specs.Moves.{Consumed, ReadsPiece}
 use Rattle.pack_streams.specs.declared.source.ReadAnswer.TheVariants.{Got, End}
 use Rattle.pack_streams.specs.declared.moves.ReadStop.{ReadStop}
 use Rattle.pack_streams.specs.declared.moves.ReadStop.TheVariants.{ReadFault, TooLong, NoMemory}
@@ -133,7 +133,7 @@ pub record IsUnopened (old now : Option (List ℕ)) (before after : FaultCount) 
   pub held : held_of s ≡ fold (λ h b. add_byte b h) no_line part
   pub so_far : IsSoFar UnderBounded s (Beginning UnderBounded) bytes
   pub kind : (rest : List ℕ) → document_kind (bytes ++ rest) ≡ kind_told (lines_fed s rest)
-  pub gives : Gives old now bytes
+  pub gives : Consumed old now bytes
   pub stays : Stays before after
   pub number : s.number ≤ length bytes
   pub within : length bytes ≤ limit
@@ -217,7 +217,7 @@ module _ (old now : Option (List ℕ)) (before after : FaultCount) (limit : ℕ)
   -- a byte that ends no line, or a blank one
   module _ (later : Option (List ℕ)) (final : FaultCount) (k : ℕ) (read : List ℕ) (one : length read ≡ 1)
       (moves : ReadsPiece now later (Got k) read) (stays : Stays after final) where
-    gives_byte : Gives old later (bytes ++ get_or read 0 0 ∷ [])
+    gives_byte : Consumed old later (bytes ++ get_or read 0 0 ∷ [])
     gives_byte = gives_more old now later bytes (get_or read 0 0 ∷ []) h.gives
         (one_byte now later k (get_or read 0 0)
         (subst (λ p. ReadsPiece now later (Got k) p) (single read one) moves))
@@ -352,13 +352,13 @@ module _ (old now : Option (List ℕ)) (before after : FaultCount) (limit : ℕ)
           (told ∙ ap (λ (y : Lexer). kind_of_line (ended_line y.held)) is)))
 
     -- memory is refused for the byte
-    pub byte_refused : (xs : List ℕ) × Gives old later xs × (length xs ≤ limit + 1)
+    pub byte_refused : (xs : List ℕ) × Consumed old later xs × (length xs ≤ limit + 1)
     byte_refused =
         (bytes ++ get_or read 0 0 ∷ [], gives_byte, (let l = longer in let w = h.within in omega (arith, l, w)))
 
     -- it is one too many
     pub byte_past : length bytes ≡ limit
-        → (xs : List ℕ) × Gives old later xs × (length xs ≡ limit + 1) × (tells_kind (take limit xs) ≡ false)
+        → (xs : List ℕ) × Consumed old later xs × (length xs ≡ limit + 1) × (tells_kind (take limit xs) ≡ false)
     byte_past full = (
       bytes ++ get_or read 0 0 ∷ [],
       gives_byte,
@@ -368,14 +368,14 @@ module _ (old now : Option (List ℕ)) (before after : FaultCount) (limit : ℕ)
 
   -- the source failed
   pub broken_off : (later : Option (List ℕ)) → later ≡ now
-      → (xs : List ℕ) × Gives old later xs × (length xs ≤ limit) × (tells_kind xs ≡ false)
-  broken_off later same = (bytes, subst (λ x. Gives old x bytes) (sym same) h.gives, h.within, untold)
+      → (xs : List ℕ) × Consumed old later xs × (length xs ≤ limit) × (tells_kind xs ≡ false)
+  broken_off later same = (bytes, subst (λ x. Consumed old x bytes) (sym same) h.gives, h.within, untold)
 
   -- it ended
   pub ended_here : (later : Option (List ℕ)) (read : List ℕ) → ReadsPiece now later End read
       → IsOpeningBy old later bytes s None × (length bytes ≤ limit) × (s.number ≤ length bytes)
   ended_here later read moves = (
-    (subst (λ x. Gives old x bytes) (sym moves.1) h.gives, subst IsAtEnd (sym moves.1) moves.0, untold),
+    (subst (λ x. Consumed old x bytes) (sym moves.1) h.gives, subst IsAtEnd (sym moves.1) moves.0, untold),
     h.within,
     h.number,
   )
@@ -431,13 +431,13 @@ module _ (limit : ℕ) (old mid new : Option (List ℕ)) where
       held : (more : List ℕ) → IsReadWhole limit (o.bytes.items ++ more)
       held more = inl (λ same. other (sym (kinds_stay o.bytes.items more by.1 ∙ by.2) ∙ same))
 
-      all : (more : List ℕ) → Gives mid new more → Gives old new (o.bytes.items ++ more)
+      all : (more : List ℕ) → Consumed mid new more → Consumed old new (o.bytes.items ++ more)
       all more gives = gives_more old mid new o.bytes.items more by.0 gives
 
       go : (r : Result (Vec ℕ Global) ReadStop) → ReadsOn limit o.bytes.items mid new r
           → IsOpened limit old new (whole_or r)
       go (Ok bytes) (more, gives, end, are, few) = (
-        subst (Gives old new) (sym are) (all more gives),
+        subst (Consumed old new) (sym are) (all more gives),
         end,
         few,
         subst (IsReadWhole limit) (sym are) (held more),

@@ -3,7 +3,7 @@ use Rattle.std.proofs.Common.{◌≡◌, ◌+◌, ◌≤◌, ◌∙◌, ℕ, ref
 use Rattle.std.proofs.Common.{append-nil, length-append, Option, Some, None, Bool, true, false}
 use Rattle.std.specs.Bool.{if◌then◌else◌}
 use Rattle.pack_streams.specs.Faults.{FaultCount, Stays}
-use Rattle.pack_streams.specs.Moves.{Gives}
+use Rattle.pack_streams.specs.Moves.{Consumed}
 use Rattle.pack_streams.proofs.Faults.{stays_here}
 use Rattle.pack_streams.proofs.Runs.{gives_more}
 
@@ -12,7 +12,7 @@ pub record IsReadBehind (old now : Option (List ℕ)) (before after : FaultCount
     Type 0 where
   pub more : List ℕ
   pub are : bytes ≡ held ++ more
-  pub gives : Gives old now more
+  pub gives : Consumed old now more
   pub within : length bytes ≤ limit
   pub stays : Stays before after
 
@@ -26,14 +26,14 @@ read_none old before limit held few = record {
   stays = stays_here before;
 }
   where
-    none : (o : Option (List ℕ)) → Gives o o []
+    none : (o : Option (List ℕ)) → Consumed o o []
     none None = refl
     none (Some xs) = refl
 
 -- the bytes behind them, and how many all are
 pub more_read : (old now later : Option (List ℕ)) (before after : FaultCount) (limit : ℕ) (held bytes piece : List ℕ)
-    → IsReadBehind old now before after limit held bytes → Gives now later piece → length piece ≤ 4096
-    → (more : List ℕ) × Gives old later more × (bytes ++ piece ≡ held ++ more)
+    → IsReadBehind old now before after limit held bytes → Consumed now later piece → length piece ≤ 4096
+    → (more : List ℕ) × Consumed old later more × (bytes ++ piece ≡ held ++ more)
     × (length held + length more ≡ length (bytes ++ piece)) × (length held + length more ≤ limit + 4096)
 more_read old now later before after limit held bytes piece h gives few =
     let all : bytes ++ piece ≡ held ++ (h.more ++ piece) =

@@ -4,7 +4,7 @@ use Rattle.std.specs.Prelude.{Option, Some, None, Result, Ok, Err, Vec}
 use Rattle.std.specs.declared.alloc.Global.{Global}
 use Rattle.std.specs.Io.KnownBytes.{IsAtEnd}
 use Rattle.pack_streams.specs.Faults.{FaultCount, Stays, FailedOnce}
-use Rattle.pack_streams.specs.Moves.{Gives}
+use Rattle.pack_streams.specs.Moves.{Consumed}
 use Rattle.pack_streams.specs.Reading.{block}
 use Rattle.pack_streams.specs.declared.moves.ReadStop.{ReadStop}
 use Rattle.pack_streams.specs.declared.moves.ReadStop.TheVariants.{ReadFault, TooLong, NoMemory}
@@ -41,14 +41,14 @@ pub record IsBegun (limit : ℕ) (old new : Option (List ℕ)) (lexer : Lexer) (
 -- failed before; or memory was refused.
 abbrev pub IsOpened : ℕ → Option (List ℕ) → Option (List ℕ) → Result Opened ReadStop → Type 0
 IsOpened limit old new (Ok (Whole bytes)) =
-    Gives old new bytes.items × IsAtEnd new × (length bytes.items ≤ limit) × IsReadWhole limit bytes.items
+    Consumed old new bytes.items × IsAtEnd new × (length bytes.items ≤ limit) × IsReadWhole limit bytes.items
 IsOpened limit old new (Ok (Begun lexer count job)) = IsBegun limit old new lexer count job
 IsOpened limit old new (Err TooLong) =
-    (bytes : List ℕ) × Gives old new bytes × (limit < length bytes) × (length bytes ≤ limit + block)
+    (bytes : List ℕ) × Consumed old new bytes × (limit < length bytes) × (length bytes ≤ limit + block)
     × IsReadWhole limit bytes
 IsOpened limit old new (Err ReadFault) =
-    (bytes : List ℕ) × Gives old new bytes × (length bytes ≤ limit) × IsReadWhole limit bytes
-IsOpened limit old new (Err NoMemory) = (bytes : List ℕ) × Gives old new bytes × (length bytes ≤ limit + block)
+    (bytes : List ℕ) × Consumed old new bytes × (length bytes ≤ limit) × IsReadWhole limit bytes
+IsOpened limit old new (Err NoMemory) = (bytes : List ℕ) × Consumed old new bytes × (length bytes ≤ limit + block)
 
 -- the count of faults of the source: by an exact one, the first read that fails is the last
 abbrev pub CountsOpening : {A : Type 0} → FaultCount → FaultCount → Result A ReadStop → Type 0
@@ -65,9 +65,9 @@ ends_filled b s = is_line_feed b && not (is_blank (ended_line s.held))
 
 -- Up to the end of the source, or up to the line feed of the first line that isn't blank.
 abbrev pub IsOpeningBy : Option (List ℕ) → Option (List ℕ) → List ℕ → Lexer → Option DocumentKind → Type 0
-IsOpeningBy old new bytes lexer None = Gives old new bytes × IsAtEnd new × (tells_kind bytes ≡ false)
+IsOpeningBy old new bytes lexer None = Consumed old new bytes × IsAtEnd new × (tells_kind bytes ≡ false)
 IsOpeningBy old new bytes lexer (Some kind) =
-    Gives old new bytes × (tells_kind bytes ≡ true) × (document_kind bytes ≡ kind)
+    Consumed old new bytes × (tells_kind bytes ≡ true) × (document_kind bytes ≡ kind)
     × (kind ≡ Bounded
     → IsTaking UnderBounded bytes old new lexer (Reading UnderBounded (bounded_job lexer.held.words) no_parts)
     (length bytes))
@@ -77,19 +77,19 @@ IsOpeningRead limit old new (Ok o) =
     IsOpeningBy old new o.bytes.items o.lexer o.kind × (length o.bytes.items ≤ limit)
     × (o.lexer.number ≤ length o.bytes.items)
 IsOpeningRead limit old new (Err TooLong) =
-    (bytes : List ℕ) × Gives old new bytes × (length bytes ≡ limit + 1) × (tells_kind (take limit bytes) ≡ false)
+    (bytes : List ℕ) × Consumed old new bytes × (length bytes ≡ limit + 1) × (tells_kind (take limit bytes) ≡ false)
 IsOpeningRead limit old new (Err ReadFault) =
-    (bytes : List ℕ) × Gives old new bytes × (length bytes ≤ limit) × (tells_kind bytes ≡ false)
-IsOpeningRead limit old new (Err NoMemory) = (bytes : List ℕ) × Gives old new bytes × (length bytes ≤ limit + 1)
+    (bytes : List ℕ) × Consumed old new bytes × (length bytes ≤ limit) × (tells_kind bytes ≡ false)
+IsOpeningRead limit old new (Err NoMemory) = (bytes : List ℕ) × Consumed old new bytes × (length bytes ≤ limit + 1)
 
 -- the bytes behind those that are held, up to the end of the source
 abbrev pub ReadsOn : ℕ → List ℕ → Option (List ℕ) → Option (List ℕ) → Result (Vec ℕ Global) ReadStop → Type 0
 ReadsOn limit held old new (Ok bytes) =
-    (more : List ℕ) × Gives old new more × IsAtEnd new × (bytes.items ≡ held ++ more) × (length bytes.items ≤ limit)
+    (more : List ℕ) × Consumed old new more × IsAtEnd new × (bytes.items ≡ held ++ more) × (length bytes.items ≤ limit)
 ReadsOn limit held old new (Err TooLong) =
-    (more : List ℕ) × Gives old new more × (limit < length held + length more)
+    (more : List ℕ) × Consumed old new more × (limit < length held + length more)
     × (length held + length more ≤ limit + block)
 ReadsOn limit held old new (Err ReadFault) =
-    (more : List ℕ) × Gives old new more × (length held + length more ≤ limit)
+    (more : List ℕ) × Consumed old new more × (length held + length more ≤ limit)
 ReadsOn limit held old new (Err NoMemory) =
-    (more : List ℕ) × Gives old new more × (length held + length more ≤ limit + block)
+    (more : List ℕ) × Consumed old new more × (length held + length more ≤ limit + block)

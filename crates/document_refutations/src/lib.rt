@@ -6,4 +6,4 @@ mod reading;
 mod refutation;
 
 pub use position::result_line;
-pub use refutation::{HeldRefutation, read_refutation};
+pub use refutation::{ReadRefutation, read_refutation};

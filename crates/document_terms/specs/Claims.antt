@@ -2,7 +2,7 @@
 use Rattle.std.specs.Prelude.{ℕ, ◌+◌, ◌*◌, ◌<◌, List, [], ◌∷◌, codes}
 use Rattle.std.specs.Fmt.{decimal}
 use Rattle.packing_terms.specs.Packing.{PlainInstance, Fits}
-use Rattle.packing_terms.specs.Limits.{most_boxes}
+use Rattle.packing_terms.specs.Limits.{max_boxes}
 use Rattle.packing_terms.specs.Goals.{with_last_side, FitsInBins, ReachesValue, IsLeastHeight, IsLeastBins}
 use Rattle.packing_terms.specs.Goals.{IsGreatestValue}
 use Rattle.document_terms.specs.declared.claim.SolvingJob.{SolvingJob}
@@ -13,8 +13,8 @@ use Rattle.document_terms.specs.declared.claim.Claim.TheVariants.{NoHeight, Leas
 use Rattle.document_terms.specs.declared.claim.Claim.TheVariants.{GreatestValue, ValueBetween}
 
 -- the most that a value of a result line is: one more than all boxes may be worth
-abbrev pub most_worth : ℕ
-most_worth = 1000000000 * most_boxes + 1
+abbrev pub max_worth : ℕ
+max_worth = 1000000000 * max_boxes + 1
 
 -- the job of a claim
 abbrev pub job_of : Claim → SolvingJob

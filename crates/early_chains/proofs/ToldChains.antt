@@ -10,7 +10,7 @@ use Rattle.packing_terms.specs.declared.Rel.TheVariants.{Overlap, Before, After}
 use Rattle.packing_terms.specs.Exclusions.{Exclusions, IsEdge, IsSurelyBefore}
 use Rattle.closure_terms.specs.States.{HasEmptyMask}
 use Rattle.orientation_rules.specs.Kept.{IsTakenOut, taken}
-use Rattle.early_chains.specs.Lines.{IsLine}
+use Rattle.early_chains.specs.Lines.{IsKnownChain}
 
 -- what isn't known isn't among what is
 other_than : (known : ℕ → Bool) (x : ℕ) (vs : List ℕ) → known x ≡ false → AllByRecursion (λ u. known u ≡ true) vs
@@ -26,7 +26,7 @@ still_known old new (v ∷ vs) more h = (more v h.0, still_known old new vs more
 -- a box by itself
 pub line_of_one : (instance : PlainInstance) (X : Exclusions) (i v k : ℕ) (known : ℕ → Bool) → v < box_count instance
     → k ≡ side instance v i → known v ≡ true
-    → IsLine instance X i v k known
+    → IsKnownChain instance X i v k known
 line_of_one instance X i v k known there e on = record {
   after = [];
   boxes = (there, tt, tt);
@@ -37,9 +37,9 @@ line_of_one instance X i v k known there e on = record {
 
 -- one box more in front
 pub line_more : (instance : PlainInstance) (X : Exclusions) (i v x k w : ℕ) (old new : ℕ → Bool)
-    → IsLine instance X i v k old → x < box_count instance
+    → IsKnownChain instance X i v k old → x < box_count instance
     → old x ≡ false → IsSurelyBefore X i x v → w ≡ k + side instance x i → ((u : ℕ) → new u ≡ old u || u == x)
-    → IsLine instance X i x w new
+    → IsKnownChain instance X i x w new
 line_more instance X i v x k w old new h there off before e grown = record {
   after = v ∷ h.after;
   boxes = (there, other_than old x (v ∷ h.after) off h.within, h.boxes);

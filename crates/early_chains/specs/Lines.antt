@@ -7,7 +7,7 @@ use Rattle.packing_terms.specs.Rules.{AreBoxes, IsChain, weight}
 use Rattle.rule_terms.specs.Runs.{HasTail}
 
 -- a chain of known boxes that starts in v has the weight k
-pub record IsLine (instance : PlainInstance) (X : Exclusions) (i v k : ℕ) (known : ℕ → Bool) : Type 0 where
+pub record IsKnownChain (instance : PlainInstance) (X : Exclusions) (i v k : ℕ) (known : ℕ → Bool) : Type 0 where
   pub after : List ℕ
   pub boxes : AreBoxes instance (v ∷ after)
   pub chain : IsChain X i (v ∷ after)

@@ -2,10 +2,10 @@
 //! and looked at box by box before they count.
 #![tactic(auto)]
 
-mod guess;
+mod estimates;
+mod extraction;
 mod lines;
-mod rising;
-mod telling;
+mod raising;
 
-pub use guess::Guess;
-pub use lines::shut_pair;
+pub use estimates::ChainEstimates;
+pub use lines::apply_long_chain;

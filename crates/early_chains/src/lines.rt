@@ -14,7 +14,7 @@ use orientation_rules::keep_only;
 
 // The box that a chain of these boxes starts in, which are told from its last one on, and the
 // chain's weight; none where they are no chain.
-fn chain_of<const K: usize>(
+fn check_chain<const K: usize>(
     instance: &Instance,
     state: &EdgeState,
     dim: u32,
@@ -58,7 +58,7 @@ fn chain_of<const K: usize>(
 
 /// The first two boxes of a chain, which is told from its last box on, if it is one and longer than
 /// the container.
-pub(crate) fn long_pair<const K: usize>(
+pub(crate) fn find_long_chain<const K: usize>(
     instance: &Instance,
     state: &EdgeState,
     dim: u32,
@@ -74,7 +74,7 @@ pub(crate) fn long_pair<const K: usize>(
     }
     let last = line.len() - 1;
     let u = line[last];
-    let Some((v, weight)) = chain_of::<K>(instance, state, dim, &line[..last]) else {
+    let Some((v, weight)) = check_chain::<K>(instance, state, dim, &line[..last]) else {
         return None;
     };
     if u >= instance.len() || u == v {
@@ -93,7 +93,7 @@ pub(crate) fn long_pair<const K: usize>(
 }
 
 /// CHAIN at the first two boxes of a chain that is too long: it leaves their mask empty.
-pub fn shut_pair(instance: &Instance, state: &mut EdgeState, dim: u32, u: u32, v: u32)
+pub fn apply_long_chain(instance: &Instance, state: &mut EdgeState, dim: u32, u: u32, v: u32)
     requires sizes { IsSized instance.now state.old dim }
     requires long { IsTooLong instance.now (excludes state.old.trail) dim u v }
     ensures sizes { state.new ≡ record state.old { trail = state.new.trail } }

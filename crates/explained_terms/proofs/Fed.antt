@@ -265,9 +265,9 @@ module _ (instance : PlainInstance) (es : List Exclusion) (nodes : List AuditNod
       (passes _ _ _ (and_from _ _ (premises_test instance (excludes es) rule s.premises)
       (step_changes instance es rule s)) refl)) f
 
-  chain_of : (i : ℕ) (before : List ℕ) (u v : ℕ) (after : List ℕ) → IsStep instance es (Chain i before u v after)
+  check_chain : (i : ℕ) (before : List ℕ) (u v : ℕ) (after : List ℕ) → IsStep instance es (Chain i before u v after)
       → IsChainStep instance es i (before ++ u ∷ []) (v ∷ after)
-  chain_of i before u v after s = record {
+  check_chain i before u v after s = record {
     dim = s.is.0;
     boxes_before = s.is.1;
     boxes_after = s.is.2;
@@ -307,7 +307,7 @@ module _ (instance : PlainInstance) (es : List Exclusion) (nodes : List AuditNod
       ∙ ap (λ l. audited_after_all instance (begun es i (length (before ++ u ∷ [])) (length (v ∷ after)) [] [] ∷ nodes)
       l) (append_assoc (box_lines (before ++ u ∷ [])) (box_lines (v ∷ after)) more)
       ∙ feed_chain instance es i (length (before ++ u ∷ [])) (length (v ∷ after)) (before ++ u ∷ []) (v ∷ after)
-      (chain_of i before u v after s) refl refl nodes more (before ++ u ∷ []) [] refl (omega arith)
+      (check_chain i before u v after s) refl refl nodes more (before ++ u ∷ []) [] refl (omega arith)
       ∙ ap (λ w. audited_after_all instance (at_rest (with_exclusion es (exclusion_at i w v Before)) ∷ nodes) more)
       (last_is before u)
     where

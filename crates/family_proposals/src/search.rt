@@ -6,7 +6,7 @@ use crate::space::{Root, apart_rows, root};
 use box_instances::{Instance, NoMemory};
 use edge_state::EdgeState;
 use family_tokens::{FamilyToken, Token};
-use loose_lists::pushed;
+use lenient_lists::pushed;
 use std::alloc::Global;
 
 // A family in one dimension that is longer than the container: begun with each box in turn, and

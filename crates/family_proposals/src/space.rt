@@ -4,7 +4,7 @@ use box_instances::{Instance, NoMemory};
 use class_search::first_too_large;
 use edge_state::EdgeState;
 use family_tokens::Token;
-use loose_lists::pushed;
+use lenient_lists::pushed;
 use packing_terms::Rel;
 use rule_closure::{Closed, Closer};
 use std::alloc::Global;

@@ -6,9 +6,9 @@
 //! the next batch begin. So what is found doesn't depend on the number of threads.
 
 use crate::orders::start_orders;
+use crate::oriented::OrientedInstance;
 use crate::rounds::{Goal, Plan, ROUNDS, Round, WIDE};
 use crate::swaps::Incumbent;
-use crate::turned::Turned;
 use box_instances::{Instance, NoMemory};
 use std::alloc::Global;
 use std::thread;
@@ -44,7 +44,7 @@ impl Batches {
         workers: u32,
     ) -> Result<Batches, NoMemory> {
         let (dims, count) = (instance.dims(), instance.len());
-        let upright = Turned::new(alloc, instance, dims - 1, false)?;
+        let upright = OrientedInstance::new(alloc, instance, dims - 1, false)?;
         let mut rounds = Vec::new(alloc);
         for _ in 0..workers.clamp(1, ROUNDS as u32) {
             let round = Round::new(alloc, instance, copy_of(alloc, weights)?)?;

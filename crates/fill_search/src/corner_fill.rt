@@ -11,11 +11,11 @@
 
 use crate::blocks::{Block, Corners, ORIGIN, Point, UP, block_of, is_lower, no_blocks, set_block};
 use crate::fill_steps::{Move, NO_BOX};
+use crate::oriented::OrientedInstance;
 use crate::skyline_fill::Limits;
 use crate::slots::{clear, copy_into, weight};
-use crate::turned::Turned;
 use box_instances::NoMemory;
-use loose_lists::{at, put, zeros};
+use lenient_lists::{at, put, zeros};
 use std::alloc::Global;
 
 /// The memory of a fill, with its kept blocks.
@@ -80,7 +80,7 @@ impl CornerFill {
     }
 
     // The origin alone, in a container whose boxes may reach as high as `top`.
-    fn begin(&mut self, turned: &Turned, order: &[u32], top: u32) {
+    fn begin(&mut self, turned: &OrientedInstance, order: &[u32], top: u32) {
         clear(&mut self.lies);
         self.height = 0;
         self.laid = 0;
@@ -102,7 +102,7 @@ impl CornerFill {
     }
 
     // Finds the least sides.
-    fn find_least(&mut self, turned: &Turned, order: &[u32]) {
+    fn find_least(&mut self, turned: &OrientedInstance, order: &[u32]) {
         self.least = [u32::MAX; 4];
         for v in order {
             let sides = self.sides_of(turned, *v);
@@ -230,7 +230,7 @@ impl CornerFill {
     }
 
     // Lays a box.
-    fn lay(&mut self, v: u32, block: &Block) {
+    fn place_box(&mut self, v: u32, block: &Block) {
         set_block(&mut self.lying, v as usize, block);
         self.height = self.height.max(block.end[UP]);
         put(&mut self.lies, v as usize, 1);
@@ -243,7 +243,7 @@ impl CornerFill {
     }
 
     // The sides of a box, 1 in each dimension that the instance hasn't.
-    fn sides_of(&self, turned: &Turned, v: u32) -> Point {
+    fn sides_of(&self, turned: &OrientedInstance, v: u32) -> Point {
         let mut sides = [1; 4];
         let first = self.first_index();
         for k in first..4 {
@@ -256,7 +256,7 @@ impl CornerFill {
     // `left` before them, or `u64::MAX` if that is more than the limits allow.
     fn fill(
         &mut self,
-        turned: &Turned,
+        turned: &OrientedInstance,
         order: &[u32],
         first: usize,
         weights: &[u64],
@@ -268,7 +268,7 @@ impl CornerFill {
             let v = at(order, k);
             let sides = self.sides_of(turned, v);
             if let Some(block) = self.lowest_block(&sides) {
-                self.lay(v, &block);
+                self.place_box(v, &block);
                 if self.height > limits.highest {
                     return u64::MAX;
                 }
@@ -284,13 +284,19 @@ impl CornerFill {
 
     /// Lays boxes in an order. It answers the total weight of those that are left out, or `u64::MAX`
     /// if the fill was cut by `limits`.
-    pub fn run(&mut self, turned: &Turned, order: &[u32], weights: &[u64], limits: &Limits) -> u64 {
+    pub fn run(
+        &mut self,
+        turned: &OrientedInstance,
+        order: &[u32],
+        weights: &[u64],
+        limits: &Limits,
+    ) -> u64 {
         self.begin(turned, order, limits.top);
         self.fill(turned, order, 0, weights, limits, 0)
     }
 
     // Whether a move exchanges two boxes of the same sides and weight.
-    fn are_alike(&self, turned: &Turned, weights: &[u64], moved: &Move) -> bool {
+    fn are_alike(&self, turned: &OrientedInstance, weights: &[u64], moved: &Move) -> bool {
         let (u, v) = (moved.forward, moved.back);
         v != NO_BOX && turned.are_equal(u, v) && weight(weights, u) == weight(weights, v)
     }
@@ -310,7 +316,7 @@ impl CornerFill {
     /// boxes of the same sides and weight alone. The boxes before the move lie where they did.
     pub fn run_moved(
         &mut self,
-        turned: &Turned,
+        turned: &OrientedInstance,
         order: &[u32],
         moved: &Move,
         weights: &[u64],
@@ -326,7 +332,7 @@ impl CornerFill {
         for v in order[..first].iter() {
             if at(&self.is_kept, *v as usize) == 1 {
                 let block = block_of(&self.kept, *v as usize);
-                self.lay(*v, &block);
+                self.place_box(*v, &block);
             } else {
                 left = left.saturating_add(weight(weights, *v));
             }

@@ -1,8 +1,8 @@
 //! The steps of a fill in two dimensions, and the first one that a change of the order reaches.
 
+use crate::oriented::OrientedInstance;
 use crate::skyline::Gap;
-use crate::turned::Turned;
-use loose_lists::at;
+use lenient_lists::at;
 
 /// The number of no box.
 pub(crate) const NO_BOX: u32 = u32::MAX;
@@ -73,7 +73,7 @@ pub struct Move {
 impl Move {
     // How well a box of the move fits the gap of a step, and 0 for `NO_BOX`.
     #[inline]
-    fn score(turned: &Turned, step: &Step, top: u32, box_no: u32) -> u32 {
+    fn score(turned: &OrientedInstance, step: &Step, top: u32, box_no: u32) -> u32 {
         if box_no == NO_BOX {
             return 0;
         }
@@ -90,7 +90,13 @@ impl Move {
 
     // Whether a step that compares some boxes alone may change: one of the two fits the gap, and
     // stands before the last one that was compared.
-    fn may_change_narrow(&self, turned: &Turned, positions: &[u32], step: &Step, top: u32) -> bool {
+    fn may_change_narrow(
+        &self,
+        turned: &OrientedInstance,
+        positions: &[u32],
+        step: &Step,
+        top: u32,
+    ) -> bool {
         self.is_before(positions, step.last)
             && (Move::score(turned, step, top, self.forward) > 0
                 || Move::score(turned, step, top, self.back) > 0)
@@ -98,7 +104,13 @@ impl Move {
 
     // Whether a step that compares all boxes may change: it laid the box that moves back, or the one
     // that moves forward fits as well and comes before the box of the step.
-    fn may_change_wide(&self, turned: &Turned, positions: &[u32], step: &Step, top: u32) -> bool {
+    fn may_change_wide(
+        &self,
+        turned: &OrientedInstance,
+        positions: &[u32],
+        step: &Step,
+        top: u32,
+    ) -> bool {
         step.box_no == self.back
             || (self.is_before(positions, step.box_no)
                 && Move::score(turned, step, top, self.forward) == step.score)
@@ -108,7 +120,7 @@ impl Move {
     /// the new order, and no box of these steps reaches above `top`.
     pub(crate) fn first_change(
         &self,
-        turned: &Turned,
+        turned: &OrientedInstance,
         positions: &[u32],
         steps: &[Step],
         top: u32,

@@ -2,10 +2,10 @@
 
 use crate::corner_fill::CornerFill;
 use crate::fill_steps::Move;
+use crate::oriented::OrientedInstance;
 use crate::skyline_fill::{Limits, SkylineFill};
-use crate::turned::Turned;
 use box_instances::NoMemory;
-use loose_lists::zeros;
+use lenient_lists::zeros;
 use std::alloc::Global;
 
 /// The memory of fills, with one that is kept. The part that isn't for these dimensions is small.
@@ -32,7 +32,13 @@ impl Fills {
 
     /// Lays boxes in an order. It answers the total weight of those that are left out, or
     /// `u64::MAX` if the fill was cut by `limits`.
-    pub fn run(&mut self, turned: &Turned, order: &[u32], weights: &[u64], limits: &Limits) -> u64 {
+    pub fn run(
+        &mut self,
+        turned: &OrientedInstance,
+        order: &[u32],
+        weights: &[u64],
+        limits: &Limits,
+    ) -> u64 {
         if !self.is_flat {
             return self.corner.run(turned, order, weights, limits);
         }
@@ -46,7 +52,7 @@ impl Fills {
     /// `positions`; or it answers that nothing changes.
     pub(crate) fn run_moved(
         &mut self,
-        turned: &Turned,
+        turned: &OrientedInstance,
         order: &[u32],
         positions: &[u32],
         moved: &Move,

@@ -1,11 +1,11 @@
 //! One round of swaps, with a memory of its own, so that several can run at once.
 
 use crate::orders::Draws;
+use crate::oriented::{OrientedInstance, all_turns_of};
 use crate::slots::side;
 use crate::swaps::{Aim, Incumbent, Style, Swaps};
-use crate::turned::{Turned, all_turns_of};
 use box_instances::{Instance, NoMemory};
-use loose_lists::at;
+use lenient_lists::at;
 use std::alloc::Global;
 
 /// The number of rounds of a batch.
@@ -44,7 +44,7 @@ pub(crate) struct Plan {
 /// The memory of a round.
 #[derive(Drop)]
 pub(crate) struct Round {
-    turns: Vec<Turned>,
+    turns: Vec<OrientedInstance>,
     swaps: Swaps,
     /// The best packing that the round found, or where it began.
     pub found: Incumbent,

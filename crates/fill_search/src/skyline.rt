@@ -2,7 +2,7 @@
 
 use crate::slots::copy_first;
 use box_instances::NoMemory;
-use loose_lists::{at, put, zeros};
+use lenient_lists::{at, put, zeros};
 use std::alloc::Global;
 
 /// A part of the skyline: where it begins, how wide it is, and how high it lies.

@@ -8,10 +8,10 @@
 //! and Sim (2011).
 
 use crate::fill_steps::{Move, NO_BOX, NO_STEP, Step, score};
+use crate::oriented::OrientedInstance;
 use crate::skyline::{Gap, Skyline, remove};
-use crate::turned::Turned;
 use box_instances::NoMemory;
-use loose_lists::{at, put, zeros};
+use lenient_lists::{at, put, zeros};
 use std::alloc::Global;
 
 /// How far a fill goes.
@@ -139,7 +139,7 @@ impl SkylineFill {
 
     // Lays and loses again what the kept fill did before a step, and lets all other boxes of the
     // order wait.
-    fn begin(&mut self, turned: &Turned, order: &[u32], first: usize) {
+    fn begin(&mut self, turned: &OrientedInstance, order: &[u32], first: usize) {
         self.skyline.flatten(turned.container(0));
         self.height = 0;
         self.first = first;
@@ -250,7 +250,7 @@ impl SkylineFill {
     }
 
     // Lays a box into a gap: at the wall that is as high, or else at the higher one.
-    fn lay(&mut self, chosen: &Chosen, gap: &Gap, lost: u64) {
+    fn place_box(&mut self, chosen: &Chosen, gap: &Gap, lost: u64) {
         let index = chosen.index;
         let (width, height) = (at(&self.widths, index), at(&self.heights, index));
         let box_no = at(&self.numbers, index);
@@ -290,7 +290,7 @@ impl SkylineFill {
             }
             let gap = self.skyline.lowest_gap();
             if let Some(chosen) = self.best_box(&gap, limits) {
-                self.lay(&chosen, &gap, lost);
+                self.place_box(&chosen, &gap, lost);
                 if self.height > limits.highest {
                     return false;
                 }
@@ -312,7 +312,7 @@ impl SkylineFill {
     }
 
     /// Lays boxes in an order. It answers whether it went on to its end, and wasn't cut.
-    pub fn run(&mut self, turned: &Turned, order: &[u32], limits: &Limits) -> bool {
+    pub fn run(&mut self, turned: &OrientedInstance, order: &[u32], limits: &Limits) -> bool {
         self.begin(turned, order, 0);
         self.fill(limits, 0)
     }
@@ -321,7 +321,7 @@ impl SkylineFill {
     /// the new order. It answers like `run`, or that all steps are the same.
     pub fn run_moved(
         &mut self,
-        turned: &Turned,
+        turned: &OrientedInstance,
         order: &[u32],
         positions: &[u32],
         moved: &Move,

@@ -7,11 +7,11 @@
 use crate::fill_steps::{Move, NO_BOX};
 use crate::fills::Fills;
 use crate::orders::Draws;
+use crate::oriented::OrientedInstance;
 use crate::skyline_fill::Limits;
 use crate::slots::copy_into;
-use crate::turned::Turned;
 use box_instances::NoMemory;
-use loose_lists::{at, put, zeros};
+use lenient_lists::{at, put, zeros};
 use std::alloc::Global;
 
 // How often a box that is left out is drawn before any box is taken.
@@ -38,7 +38,7 @@ pub struct Style {
 impl Style {
     // Whether boxes that are left out move forward. In three and four dimensions swaps alone place
     // all boxes of three strips 1 % lower.
-    fn moves_forward(self, turned: &Turned) -> bool {
+    fn moves_forward(self, turned: &OrientedInstance) -> bool {
         self.aim == Aim::Weight && (turned.dims == 2 || !self.are_volumes)
     }
 }
@@ -85,7 +85,7 @@ struct Lost {
 }
 
 impl Lost {
-    fn new(turned: &Turned, style: Style) -> Lost {
+    fn new(turned: &OrientedInstance, style: Style) -> Lost {
         let top = u128::from(turned.top().max(1));
         Lost {
             style,
@@ -116,7 +116,7 @@ impl Lost {
     }
 
     // The limits of a fill that costs no more than this.
-    fn limits(&self, turned: &Turned, cost: u64) -> Limits {
+    fn limits(&self, turned: &OrientedInstance, cost: u64) -> Limits {
         let most_lost = self.most(cost);
         let window = self.style.window;
         match self.style.aim {
@@ -290,7 +290,7 @@ impl Swaps {
     }
 
     // Keeps the last fill, and what it laid if that costs less than the best so far.
-    fn keep(&mut self, turned: &Turned, cost: u64, best: &mut Incumbent) {
+    fn keep(&mut self, turned: &OrientedInstance, cost: u64, best: &mut Incumbent) {
         self.fills.keep();
         if cost >= best.cost {
             return;
@@ -309,7 +309,7 @@ impl Swaps {
     // cost behind it.
     fn step(
         &mut self,
-        turned: &Turned,
+        turned: &OrientedInstance,
         lost: &Lost,
         is_forward: bool,
         cost: u64,
@@ -346,7 +346,7 @@ impl Swaps {
     /// left.
     pub fn run(
         &mut self,
-        turned: &Turned,
+        turned: &OrientedInstance,
         style: Style,
         fills: u64,
         enough: u64,

@@ -4,13 +4,13 @@ use Rattle.std.proofs.Common.{true, false, cond, List, Option, Some, None, Resul
 use Rattle.std.specs.Prelude.{◌==◌, ◌&&◌, ◌-◌, nat_le, nat_lt, slice_index}
 use Rattle.std.proofs.lemmas.Bool.{ne_eqb, and_left, and_right, false_from_ne_true, leb-true, leb-false, ltb-true}
 use Rattle.packing_terms.specs.Packing.{PlainInstance, dims, written_container}
-use Rattle.packing_terms.specs.Limits.{IsInternalInstance, most_height}
+use Rattle.packing_terms.specs.Limits.{IsInternalInstance, max_height}
 use Rattle.packing_terms.specs.Results.{◌>>=◌}
 use Rattle.packing_terms.specs.Tokens.{PlainToken}
 use Rattle.text_terms.specs.Lines.{Line}
 use Rattle.verdict_terms.specs.declared.reason.Reason.{Reason}
 use Rattle.verdict_terms.specs.Reasons.{form}
-use Rattle.verdict_terms.specs.Numbers.{require, most_coordinate}
+use Rattle.verdict_terms.specs.Numbers.{require, max_coordinate}
 use Rattle.verdict_terms.specs.Stages.{is_word}
 use Rattle.front_terms.specs.declared.answers.FrontReason.{FrontReason}
 use Rattle.front_terms.specs.declared.answers.FrontReason.TheVariants.{Tree, Places}
@@ -31,17 +31,17 @@ use Rattle.front_documents.specs.Parts.{at_front, IsOpened, taken_by, opened_by,
 -- ---- numbers that are too great for any side
 
 pub small_sides : (instance : PlainInstance) → IsInternalInstance instance → dims instance ≡ 2
-    → (written_container instance 0 < most_coordinate) × (written_container instance 1 < most_coordinate)
+    → (written_container instance 0 < max_coordinate) × (written_container instance 1 < max_coordinate)
 small_sides instance limits plane =
     let first = limits.container.others 0 (omega (arith, plane)) in
     let e : dims instance - 1 ≡ 1 = omega (arith, plane) in
-    let last : slice_index instance.container 1 ≤ most_height =
-    subst (λ (n : ℕ). slice_index instance.container n ≤ most_height) e limits.container.last in
+    let last : slice_index instance.container 1 ≤ max_height =
+    subst (λ (n : ℕ). slice_index instance.container n ≤ max_height) e limits.container.last in
     let side = first.1 in (omega (arith, side), omega (arith, last))
 
 -- one of the two is
 abbrev AreBig : ℕ → ℕ → Type 0
-AreBig x y = (most_coordinate ≤ x) ⊎ (most_coordinate ≤ y)
+AreBig x y = (max_coordinate ≤ x) ⊎ (max_coordinate ≤ y)
 
 le_off : (x y : ℕ) → (x ≤ y → ⊥) → nat_le x y ≡ false
 le_off x y off = false_from_ne_true (nat_le x y) (λ e. off (leb-true x y e))
@@ -49,27 +49,27 @@ le_off x y off = false_from_ne_true (nat_le x y) (λ e. off (leb-true x y e))
 lt_off : (x y : ℕ) → (x < y → ⊥) → nat_lt x y ≡ false
 lt_off x y off = false_from_ne_true (nat_lt x y) (λ e. off (ltb-true x y e))
 
-clamped_as : (n : ℕ) → (clamped n ≡ n) ⊎ ((clamped n ≡ most_coordinate) × (most_coordinate ≤ n))
-clamped_as n = go (nat_le n most_coordinate) refl
+clamped_as : (n : ℕ) → (clamped n ≡ n) ⊎ ((clamped n ≡ max_coordinate) × (max_coordinate ≤ n))
+clamped_as n = go (nat_le n max_coordinate) refl
   where
-    go : (b : Bool) → nat_le n most_coordinate ≡ b → (cond b n most_coordinate ≡ n)
-        ⊎ ((cond b n most_coordinate ≡ most_coordinate) × (most_coordinate ≤ n))
+    go : (b : Bool) → nat_le n max_coordinate ≡ b → (cond b n max_coordinate ≡ n)
+        ⊎ ((cond b n max_coordinate ≡ max_coordinate) × (max_coordinate ≤ n))
     go true e = inl refl
-    go false e = inr (refl, (let l = leb-false n most_coordinate e in omega (arith, l)))
+    go false e = inr (refl, (let l = leb-false n max_coordinate e in omega (arith, l)))
 
 -- what is the same for all pairs of which one is too great is so for numbers of 32 bits
 clamped_by : {A : Type 0} (f : ℕ → ℕ → A) (r : A) (x y : ℕ) → ((a b : ℕ) → AreBig a b → f a b ≡ r)
     → f x y ≡ f (clamped x) (clamped y)
 clamped_by f r x y big = go (clamped_as x) (clamped_as y)
   where
-    go : (clamped x ≡ x) ⊎ ((clamped x ≡ most_coordinate) × (most_coordinate ≤ x))
-        → (clamped y ≡ y) ⊎ ((clamped y ≡ most_coordinate) × (most_coordinate ≤ y))
+    go : (clamped x ≡ x) ⊎ ((clamped x ≡ max_coordinate) × (max_coordinate ≤ x))
+        → (clamped y ≡ y) ⊎ ((clamped y ≡ max_coordinate) × (max_coordinate ≤ y))
         → f x y ≡ f (clamped x) (clamped y)
     go (inl p) (inl q) = sym (ap (λ (a : ℕ). f a (clamped y)) p ∙ ap (f x) q)
     go (inr p) q = big x y (inl p.1) ∙ sym (big (clamped x) (clamped y) (inl (let e = p.0 in omega (arith, e))))
     go (inl p) (inr q) = big x y (inr q.1) ∙ sym (big (clamped x) (clamped y) (inr (let e = q.0 in omega (arith, e))))
 
-big_before : (h least most width height : ℕ) → h < most_coordinate → most < most_coordinate → AreBig width height
+big_before : (h least most width height : ℕ) → h < max_coordinate → most < max_coordinate → AreBig width height
     → ((height == h) && (nat_le least width && nat_lt width most)) ≡ false
 big_before h least most width height l m (inl w) =
     and_right (height == h) (nat_le least width && nat_lt width most)
@@ -77,14 +77,14 @@ big_before h least most width height l m (inl w) =
 big_before h least most width height l m (inr k) =
     and_left (height == h) (nat_le least width && nat_lt width most) (ne_eqb height h (λ e. omega (arith, e, l, k)))
 
-big_closing : (w h width height : ℕ) → w < most_coordinate → h < most_coordinate → AreBig width height
+big_closing : (w h width height : ℕ) → w < max_coordinate → h < max_coordinate → AreBig width height
     → ((height == h) && (width == w)) ≡ false
 big_closing w h width height l m (inl k) =
     and_right (height == h) (width == w) (ne_eqb width w (λ e. omega (arith, e, l, k)))
 big_closing w h width height l m (inr k) =
     and_left (height == h) (width == w) (ne_eqb height h (λ e. omega (arith, e, m, k)))
 
-big_point : (w h most width height : ℕ) → h < most_coordinate → most < most_coordinate → AreBig width height
+big_point : (w h most width height : ℕ) → h < max_coordinate → most < max_coordinate → AreBig width height
     → ((width == w) && (nat_le width most && (nat_le 1 height && nat_le height h))) ≡ false
 big_point w h most width height l m (inl k) =
     and_right (width == w) (nat_le width most && (nat_le 1 height && nat_le height h))
@@ -98,8 +98,8 @@ big_point w h most width height l m (inr k) =
 wanted_off : {A : Type 0} (b : Bool) (reason : FrontReason) (x : A) → b ≡ false → wanted b reason x ≡ Err reason
 wanted_off b reason x e = rw e refl
 
-module _ (instance : PlainInstance) (complete : Bool) (first : written_container instance 0 < most_coordinate)
-    (second : written_container instance 1 < most_coordinate) where
+module _ (instance : PlainInstance) (complete : Bool) (first : written_container instance 0 < max_coordinate)
+    (second : written_container instance 1 < max_coordinate) where
   -- why a corner isn't allowed that is too great
   abbrev corner_no : Bool → ℕ → Part → FrontReason
   corner_no c (suc left) BegunPart = front_range
@@ -271,8 +271,8 @@ module _ (instance : PlainInstance) (complete : Bool) where
     opened_as f g (Ok None) e o = λ points. e points ∙ o points
     opened_as f g (Err reason) e o = λ points. e points ∙ o points
 
-    module _ (first : written_container instance 0 < most_coordinate)
-        (second : written_container instance 1 < most_coordinate) (inside : IsPartInside instance s.part)
+    module _ (first : written_container instance 0 < max_coordinate)
+        (second : written_container instance 1 < max_coordinate) (inside : IsPartInside instance s.part)
         (width height : ℕ) where
       pub corner_opened : (points : ℕ) (next : FrontStage)
           → corner_line instance complete s.left (plain_part s.part) (clamped width) (clamped height) ≡ Ok next

@@ -13,7 +13,7 @@ use Rattle.refutation_check.specs.Refuters.{PlainRefuter}
 use Rattle.verdict_terms.specs.declared.reason.Reason.{Reason}
 use Rattle.verdict_terms.specs.declared.reason.Reason.TheVariants.{Token, OutsideAt, OverlapAt, TooShort}
 use Rattle.verdict_terms.specs.Reasons.{form, range}
-use Rattle.verdict_terms.specs.Numbers.{require, most_coordinate, are_coordinates}
+use Rattle.verdict_terms.specs.Numbers.{require, max_coordinate, are_coordinates}
 use Rattle.verdict_terms.specs.Stages.{is_word, coded}
 use Rattle.front_terms.specs.declared.answers.FrontReason.{FrontReason}
 use Rattle.front_terms.specs.declared.answers.FrontReason.TheVariants.{Tree, Places}
@@ -67,7 +67,7 @@ opened_by instance complete s line points = named_line instance (claim_of comple
 
 -- a number as one of 32 bits
 abbrev pub clamped : ℕ → ℕ
-clamped n = cond (nat_le n most_coordinate) n most_coordinate
+clamped n = cond (nat_le n max_coordinate) n max_coordinate
 
 -- a reason that isn't one of places
 abbrev pub told_code : FrontReason → Reason

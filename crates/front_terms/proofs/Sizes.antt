@@ -1,7 +1,7 @@
 -- Containers of other sides: what fits one fits each greater one, and what is refuted doesn't fit.
 use Rattle.std.proofs.Common.{◌≡◌, ℕ, zero, suc, ◌+◌, ◌<◌, ◌≤◌, subst, arith, List, []}
 use Rattle.packing_terms.specs.Packing.{PlainInstance, IsPacking, Fits, HasPositiveSides, dims, kerf, written_container}
-use Rattle.packing_terms.specs.Limits.{IsInternalInstance, AreBoxItems, AreKerfs, IsSide, most_height}
+use Rattle.packing_terms.specs.Limits.{IsInternalInstance, AreBoxItems, AreKerfs, IsSide, max_height}
 use Rattle.packing_terms.specs.Tokens.{PlainToken}
 use Rattle.packing_terms.specs.Refutation.{Refutes}
 use Rattle.packing_terms.proofs.Internal.{internal_sides}
@@ -36,7 +36,7 @@ module _ (instance : PlainInstance) (limits : IsInternalInstance instance) (plan
   refuted_size a b tokens h = none_fits excess_law (with_container instance a b) (sides_at a b) tokens h
 
   -- the instance with another container in range is an internal one
-  pub internal_size : (a b : ℕ) → 1 ≤ a → a ≤ written_container instance 0 → b ≤ most_height
+  pub internal_size : (a b : ℕ) → 1 ≤ a → a ≤ written_container instance 0 → b ≤ max_height
       → IsInternalInstance (with_container instance a b)
   internal_size a b l m n = record {
     container = record {

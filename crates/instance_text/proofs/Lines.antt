@@ -8,7 +8,7 @@ use Rattle.std.proofs.lemmas.Bool.{eq-eqb, or_left, or_right, and_from, lt-leb, 
 use Rattle.std.proofs.lemmas.List.{drop-drop, length-drop, length-map, length-replicate}
 use Rattle.smallvec.specs.SmallVec.{SmallVec}
 use Rattle.packing_terms.specs.Packing.{PlainBox}
-use Rattle.packing_terms.specs.Limits.{most_boxes, most_side}
+use Rattle.packing_terms.specs.Limits.{max_boxes, max_side}
 use Rattle.box_instances.specs.declared.instance.BoxItem.{BoxItem}
 use Rattle.box_instances.specs.Plain.{plain_box}
 use Rattle.text_terms.specs.Lines.{Line}
@@ -41,7 +41,7 @@ same_ending format d count n (inr (inr h)) few some e = let k = h.1 in inr (inr 
 
 -- a box line behind which there is room: its sides, and then its ending
 module _ (parts : Parts) (words : List (List ℕ)) (format : (parts.format == 0) ≡ false)
-    (some : 0 < length parts.container) (room : length parts.boxes < most_boxes)
+    (some : 0 < length parts.container) (room : length parts.boxes < max_boxes)
     (count : length parts.kerfs ≡ length parts.container) (one : 0 < length words)
     (which : HasEnding parts.format (length parts.container + 1) (length words)) where
   box_counts : is_box_length parts.format (length parts.container) (length (drop 1 words)) ≡ true
@@ -52,24 +52,24 @@ module _ (parts : Parts) (words : List (List ℕ)) (format : (parts.format == 0)
   box_some : is_none parts.container ≡ false
   box_some = some_is parts.container (λ e. (let l = ap length e in omega (arith, l, some)))
 
-  box_few : nat_le most_boxes (length parts.boxes) ≡ false
-  box_few = lt-leb most_boxes (length parts.boxes) room
+  box_few : nat_le max_boxes (length parts.boxes) ≡ false
+  box_few = lt-leb max_boxes (length parts.boxes) room
 
   box_sides : (read : Result (List ℕ) ℕ) → numbers_of 1 (side_limits parts.kerfs) (drop 1 words) ≡ read
       → numbers_of 1 (side_limits parts.kerfs) (take (length parts.kerfs) (drop 1 words)) ≡ read
   box_sides read h =
       let l : length parts.kerfs ≡ length (side_limits parts.kerfs) =
-      sym (length-map parts.kerfs (λ k. most_side - k)) in
+      sym (length-map parts.kerfs (λ k. max_side - k)) in
       ap (λ n. numbers_of 1 (side_limits parts.kerfs) (take n (drop 1 words))) l
       ∙ numbers_cut 1 (side_limits parts.kerfs) (drop 1 words) ∙ h
 
-  box_ending : (left from : ℕ) → left ≡ most_boxes - length parts.boxes → from ≡ length parts.container + 1
+  box_ending : (left from : ℕ) → left ≡ max_boxes - length parts.boxes → from ≡ length parts.container + 1
       → (read : Result Ending ℕ)
       → ending_of parts.format left (drop from words) ≡ read
-      → ending_of parts.format (most_boxes - length parts.boxes) (drop (length parts.kerfs) (drop 1 words)) ≡ read
+      → ending_of parts.format (max_boxes - length parts.boxes) (drop (length parts.kerfs) (drop 1 words)) ≡ read
   box_ending left from is_left is_from read h =
       let e : 1 + length parts.kerfs ≡ from = omega (arith, count, is_from) in
-      ap (ending_of parts.format (most_boxes - length parts.boxes))
+      ap (ending_of parts.format (max_boxes - length parts.boxes))
       (drop-drop (length parts.kerfs) 1 words ∙ ap (λ n. drop n words) e)
       ∙ ap (λ n. ending_of parts.format n (drop from words)) (sym is_left) ∙ h
 
@@ -77,7 +77,7 @@ module _ (parts : Parts) (words : List (List ℕ)) (format : (parts.format == 0)
       → box_line parts (drop 1 words) ≡ Err code
   sides_fault code h = rw (format, box_some, box_few, box_counts, box_sides (Err code) h) refl
 
-  module _ (left from : ℕ) (is_left : left ≡ most_boxes - length parts.boxes)
+  module _ (left from : ℕ) (is_left : left ≡ max_boxes - length parts.boxes)
       (is_from : from ≡ length parts.container + 1) where
     pub ending_fault : (sides : List ℕ) (code : ℕ) → numbers_of 1 (side_limits parts.kerfs) (drop 1 words) ≡ Ok sides
         → ending_of parts.format left (drop from words) ≡ Err code → box_line parts (drop 1 words) ≡ Err code
@@ -114,17 +114,17 @@ none_is (x ∷ xs) e = absurd (omega (arith, e))
 
 pub container_read : (parts : Parts) (words : List (List ℕ)) (n : ℕ) (sides kerf : List ℕ) → (parts.format == 0) ≡ false
     → length parts.container ≡ 0
-    → n ≡ length (drop 1 words) → 2 ≤ n → n ≤ 4 → numbers_of 1 (replicate n most_side) (drop 1 words) ≡ Ok sides
+    → n ≡ length (drop 1 words) → 2 ≤ n → n ≤ 4 → numbers_of 1 (replicate n max_side) (drop 1 words) ≡ Ok sides
     → kerf ≡ replicate n 0
     → container_line parts (drop 1 words) ≡ Ok (record parts { container = sides; kerfs = kerf })
 container_read parts words n sides kerf format none is low high read zeros =
     let two : nat_le 2 (length (drop 1 words)) ≡ true = le-leb 2 (length (drop 1 words)) (omega (arith, is, low)) in
     let four : nat_le (length (drop 1 words)) 4 ≡ true = le-leb (length (drop 1 words)) 4 (omega (arith, is, high)) in
     let r : numbers_of 1 (container_limits (length (drop 1 words))) (drop 1 words) ≡ Ok sides =
-    ap (λ k. numbers_of 1 (replicate k most_side) (drop 1 words)) (sym is) ∙ read in
-    let m : length (replicate n most_side) ≡ n = length-replicate n most_side in
+    ap (λ k. numbers_of 1 (replicate k max_side) (drop 1 words)) (sym is) ∙ read in
+    let m : length (replicate n max_side) ≡ n = length-replicate n max_side in
     let count : length sides ≡ n =
-    (numbers_ok 1 (replicate n most_side) (drop 1 words) sides (omega (arith, is, m)) read).0 ∙ sym is in
+    (numbers_ok 1 (replicate n max_side) (drop 1 words) sides (omega (arith, is, m)) read).0 ∙ sym is in
     let k : replicate (length sides) 0 ≡ kerf = ap (λ x. replicate x 0) count ∙ sym zeros in
     rw (format, none_is parts.container none, two, four, r, k) refl
 

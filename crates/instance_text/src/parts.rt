@@ -1,6 +1,6 @@
 //! What one line adds to the parts of an instance, or the code of its fault.
 ghost use Rattle.std.specs.Prelude.{◌≡◌, ◌≢◌, ◌<◌, ◌≤◌, ◌+◌, ◌-◌, ◌^◌, ◌⊎◌, ◌∷◌, [], ℕ, Bool, false, IsTrue, MatchBool, List, length, take, drop, min, map, replicate, slice_index_or};
-ghost use Rattle.packing_terms.specs.Limits.{most_boxes, most_side};
+ghost use Rattle.packing_terms.specs.Limits.{max_boxes, max_side};
 ghost use Rattle.text_terms.specs.Texts.{ranged_number, numbers_of, kerf_limits, side_limits, value_of, times_of, has_times_alone, ending_of, format_line, container_line, kerf_line, box_line, is_box_length, add_line};
 ghost use Rattle.text_terms.specs.Feeding.{ended_line};
 ghost use Rattle.box_instances.specs.Plain.{plain_box};
@@ -10,7 +10,7 @@ ghost use Rattle.instance_text.specs.Reading.{with_added, IsReadAs, parts_of, pl
 use crate::codes;
 use crate::lexer::LineLexer;
 use crate::word::is_same;
-use box_instances::{BoxItem, MOST_BOXES, MOST_KERF, MOST_SIDE, MOST_VALUE, Sides};
+use box_instances::{BoxItem, MAX_BOXES, MAX_KERF, MAX_SIDE, MAX_VALUE, Sides};
 use std::alloc::Global;
 use text_terms::read_number;
 
@@ -67,7 +67,7 @@ fn limits_of_kerfs(alloc: Global, container: &[u32]) -> Sides
 {
     let mut limits = Sides::new(alloc);
     for i in 0..container.len() {
-        limits.push_reserved(MOST_SIDE.saturating_sub(container[i]).min(MOST_KERF));
+        limits.push_reserved(MAX_SIDE.saturating_sub(container[i]).min(MAX_KERF));
     }
     limits
 }
@@ -79,7 +79,7 @@ fn limits_of_sides(alloc: Global, kerf: &[u32]) -> Sides
 {
     let mut limits = Sides::new(alloc);
     for i in 0..kerf.len() {
-        limits.push_reserved(MOST_SIDE.saturating_sub(kerf[i]));
+        limits.push_reserved(MAX_SIDE.saturating_sub(kerf[i]));
     }
     limits
 }
@@ -116,7 +116,7 @@ fn value_from(line: &LineLexer, from: u32) -> Result<u64, u8>
     if !is_same(line.word(from), b"value") {
         return Err(codes::UNKNOWN_WORD);
     }
-    let value = number_within(line.word(from + 1), 0, MOST_VALUE)?;
+    let value = number_within(line.word(from + 1), 0, MAX_VALUE)?;
     Ok(value as u64)
 }
 
@@ -133,7 +133,7 @@ fn times_from(line: &LineLexer, room: u32, from: u32) -> Result<u32, u8>
     if !is_same(line.word(from), b"times") {
         return Err(codes::UNKNOWN_WORD);
     }
-    let times = number_within(line.word(from + 1), 1, MOST_BOXES as u32)?;
+    let times = number_within(line.word(from + 1), 1, MAX_BOXES as u32)?;
     if times > room {
         return Err(codes::TOO_MANY_BOXES);
     }
@@ -214,7 +214,7 @@ fn container_added(
     if count < 3 || count > 5 {
         return Err(codes::WORD_COUNT);
     }
-    let limits = repeated(alloc, MOST_SIDE, count - 1);
+    let limits = repeated(alloc, MAX_SIDE, count - 1);
     match numbers_from(alloc, line, 1, limits.as_slice()) {
         Ok(sides) => Ok(Added::Container(sides, repeated(alloc, 0, count - 1))),
         Err(code) => Err(code),
@@ -291,10 +291,10 @@ fn box_added(
     if format == 0 || container.is_empty() {
         return Err(codes::OUT_OF_ORDER);
     }
-    if boxes.len() >= MOST_BOXES {
+    if boxes.len() >= MAX_BOXES {
         return Err(codes::TOO_MANY_BOXES);
     }
-    let room = (MOST_BOXES - boxes.len()) as u32;
+    let room = (MAX_BOXES - boxes.len()) as u32;
     let count = line.word_count();
     let dims = container.len() as u32;
     if !may_have_words(format, dims, count) {

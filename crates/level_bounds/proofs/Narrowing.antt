@@ -4,7 +4,7 @@ use Rattle.std.proofs.Common.{if◌then◌else◌, nat_lt, List}
 use Rattle.std.proofs.lemmas.Bool.{lt-ltb, le-ltb}
 use Rattle.packing_terms.specs.Tokens.{PlainToken}
 use Rattle.tree_terms.specs.Levels.{PlainLevel, PlacedBy, RefutedBy, SpentAt}
-use Rattle.level_bounds.specs.Bounds.{PlainBounds, first_bounds, IsAsked, IsNarrow, narrowed, asked_left, IsRightAnswer}
+use Rattle.level_bounds.specs.Bounds.{PlainBounds, first_bounds, IsAsked, HasNoLevelLeft, narrowed, levels_left, IsRightAnswer}
 use Rattle.level_bounds.specs.Bounds.{AreSpent, AreBounds, IsClosed}
 
 -- a choice by two numbers
@@ -15,10 +15,10 @@ by_more : (a b x y : ℕ) → b ≤ a → (if nat_lt a b then x else y) ≡ y
 by_more a b x y l = ap (λ (t : Bool). if t then x else y) (le-ltb a b l)
 
 -- what is left of bounds whose lowest and highest level are these
-left_none : (b : PlainBounds) → b.highest < b.lowest → asked_left b ≡ suc (b.placed - b.refuted)
+left_none : (b : PlainBounds) → b.highest < b.lowest → levels_left b ≡ suc (b.placed - b.refuted)
 left_none b l = by_less b.highest b.lowest _ _ l
 
-left_some : (b : PlainBounds) → b.lowest ≤ b.highest → asked_left b ≡ (b.lowest - b.refuted) + (b.placed - b.highest)
+left_some : (b : PlainBounds) → b.lowest ≤ b.highest → levels_left b ≡ (b.lowest - b.refuted) + (b.placed - b.highest)
 left_some b l = by_more b.highest b.lowest _ _ l
 
 module _ (Shows : ℕ → List ℕ → Type 0) (Denies : ℕ → List PlainToken → Type 0) (Past : ℕ → Type 0) (top : ℕ) where
@@ -42,12 +42,12 @@ module _ (Shows : ℕ → List ℕ → Type 0) (Denies : ℕ → List PlainToken
   -- an answer leaves bounds, and less to be asked
   pub record IsStep (before after : PlainBounds) : Type 0 where
     pub are : Are after
-    pub less : asked_left after < asked_left before
+    pub less : levels_left after < levels_left before
 
   -- bounds between which nothing was spent
   unspent : (b c : PlainBounds) (level : ℕ) → c.refuted < c.placed → c.placed ≤ top → Denies c.refuted c.tokens
       → Shows c.placed c.numbers
-      → c.lowest ≡ c.placed → c.highest ≡ c.refuted → suc (c.placed - c.refuted) < asked_left b → IsStep b c
+      → c.lowest ≡ c.placed → c.highest ≡ c.refuted → suc (c.placed - c.refuted) < levels_left b → IsStep b c
   unspent b c level order within denied shown l h less = record {
     are = record {
       order = order;
@@ -64,7 +64,7 @@ module _ (Shows : ℕ → List ℕ → Type 0) (Denies : ℕ → List PlainToken
   -- bounds with the lowest and the highest level that were spent
   spent_between : (b c : PlainBounds) (l h : ℕ) → c.refuted < l → l ≤ h → h < c.placed → c.placed ≤ top
       → Denies c.refuted c.tokens → Shows c.placed c.numbers
-      → c.lowest ≡ l → c.highest ≡ h → Past l → Past h → (l - c.refuted) + (c.placed - h) < asked_left b → IsStep b c
+      → c.lowest ≡ l → c.highest ≡ h → Past l → Past h → (l - c.refuted) + (c.placed - h) < levels_left b → IsStep b c
   spent_between b c l h low order high within denied shown el eh pl ph less = record {
     are = record {
       order = omega (arith, low, order, high);
@@ -185,7 +185,7 @@ module _ (Shows : ℕ → List ℕ → Type 0) (Denies : ℕ → List PlainToken
         go (inr (o, p)) = let t = h.low in (omega (arith, x, o, t), y)
 
   -- where nothing is left to be asked, the two are neighbours, or those beside them were spent
-  pub closed : (b : PlainBounds) → Are b → IsNarrow b → IsClosed Past b
+  pub closed : (b : PlainBounds) → Are b → HasNoLevelLeft b → IsClosed Past b
   closed b h narrow = go h.spent
     where
       go : AreSpent Past b → IsClosed Past b

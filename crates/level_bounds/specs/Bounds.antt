@@ -42,16 +42,16 @@ first_bounds refuted tokens placed numbers = record {
   highest = refuted;
 }
 
-abbrev pub afresh : PlainBounds → PlainBounds
-afresh b = first_bounds b.refuted b.tokens b.placed b.numbers
+abbrev pub without_attempts : PlainBounds → PlainBounds
+without_attempts b = first_bounds b.refuted b.tokens b.placed b.numbers
 
 -- one level is strictly between two others
 abbrev pub IsInside : ℕ → ℕ → ℕ → Type 0
 IsInside below above level = (below < level) × (level < above)
 
 -- no level is strictly between the two
-abbrev pub IsNear : ℕ → ℕ → Type 0
-IsNear below above = above ≤ suc below
+abbrev pub AreNeighbours : ℕ → ℕ → Type 0
+AreNeighbours below above = above ≤ suc below
 
 -- the level may be asked: it is beside one of the two ends
 abbrev pub IsAsked : PlainBounds → ℕ → Type 0
@@ -66,32 +66,32 @@ middle below above = below + (above - below) / 2
 abbrev pub IsAskedNext : PlainBounds → ℕ → Type 0
 IsAskedNext b level =
     ((suc b.refuted < b.lowest) × (level ≡ middle b.refuted b.lowest))
-    ⊎ (IsNear b.refuted b.lowest × ((suc b.highest < b.placed) × (level ≡ middle b.highest b.placed)))
+    ⊎ (AreNeighbours b.refuted b.lowest × ((suc b.highest < b.placed) × (level ≡ middle b.highest b.placed)))
 
 -- the level is asked right beside an end: above the refuted one, or, where that is the neighbour of
 -- the lowest, below the placed one
-abbrev pub IsAskedBeside : PlainBounds → ℕ → Type 0
-IsAskedBeside b level =
+abbrev pub IsAdjacentLevel : PlainBounds → ℕ → Type 0
+IsAdjacentLevel b level =
     ((suc b.refuted < b.lowest) × (level ≡ suc b.refuted))
-    ⊎ (IsNear b.refuted b.lowest × ((suc b.highest < b.placed) × (level ≡ pred b.placed)))
+    ⊎ (AreNeighbours b.refuted b.lowest × ((suc b.highest < b.placed) × (level ≡ pred b.placed)))
 
 -- the level is asked behind so many in vain
-abbrev pub IsAskedAfter : ℕ → PlainBounds → ℕ → Type 0
-IsAskedAfter in_vain b level = ((in_vain < 3) × IsAskedNext b level) ⊎ ((3 ≤ in_vain) × IsAskedBeside b level)
+abbrev pub IsLevelAfterMisses : ℕ → PlainBounds → ℕ → Type 0
+IsLevelAfterMisses misses b level = ((misses < 3) × IsAskedNext b level) ⊎ ((3 ≤ misses) × IsAdjacentLevel b level)
 
 -- how many were asked in vain behind one more: none where that narrowed the gap, and else one more, as
 -- far as numbers of 32 bits reach
-abbrev pub vain_behind : ℕ → Bool → ℕ
-vain_behind in_vain true = 0
-vain_behind in_vain false = min (in_vain + 1) (2 ^ 32 - 1)
+abbrev pub updated_misses : ℕ → Bool → ℕ
+updated_misses misses true = 0
+updated_misses misses false = min (misses + 1) (2 ^ 32 - 1)
 
 -- how far the two levels are from one another
 abbrev pub gap_of : PlainBounds → ℕ
 gap_of b = b.placed - b.refuted
 
 -- nothing is left to be asked
-abbrev pub IsNarrow : PlainBounds → Type 0
-IsNarrow b = IsNear b.refuted b.lowest × IsNear b.highest b.placed
+abbrev pub HasNoLevelLeft : PlainBounds → Type 0
+HasNoLevelLeft b = AreNeighbours b.refuted b.lowest × AreNeighbours b.highest b.placed
 
 -- the bounds after the answer at a level
 abbrev pub narrowed : PlainBounds → ℕ → PlainLevel → PlainBounds
@@ -113,8 +113,8 @@ narrowed b level SpentAt = record b {
 }
 
 -- how many levels may still be asked, at most
-abbrev pub asked_left : PlainBounds → ℕ
-asked_left b = if nat_lt b.highest b.lowest then suc (b.placed - b.refuted) else
+abbrev pub levels_left : PlainBounds → ℕ
+levels_left b = if nat_lt b.highest b.lowest then suc (b.placed - b.refuted) else
     (b.lowest - b.refuted) + (b.placed - b.highest)
 
 -- The answer at a level is right, where these numbers show a level, these tokens refute one, and this

@@ -1,13 +1,13 @@
 //! A refuted level and a greater one that is placed, and what was asked between them.
 ghost use Rattle.std.specs.Prelude.{◌≡◌, ◌<◌, suc, pred, MatchOption};
 ghost use Rattle.level_search.specs.Runs.{plain_level};
-ghost use Rattle.level_bounds.specs.Bounds.{plain_bounds, first_bounds, narrowed, afresh, middle, gap_of, vain_behind, IsAsked, IsAskedNext, IsAskedBeside, IsAskedAfter, IsNarrow, IsInside, IsNear};
+ghost use Rattle.level_bounds.specs.Bounds.{plain_bounds, first_bounds, narrowed, without_attempts, middle, gap_of, updated_misses, IsAsked, IsAskedNext, IsAdjacentLevel, IsLevelAfterMisses, HasNoLevelLeft, IsInside, AreNeighbours};
 
 use level_search::Level;
-use proof_tree::TokenList;
+use proof_tree::CompactTokens;
 
 // Behind so many levels in vain, one after another, those right beside the ends come.
-const MOST_IN_VAIN: u32 = 3;
+const MAX_MISSES: u32 = 3;
 
 /// A level that the tokens refute, and a greater one that the numbers show.
 ///
@@ -18,7 +18,7 @@ const MOST_IN_VAIN: u32 = 3;
 #[derive(Drop)]
 pub struct Bounds {
     pub refuted: u64,
-    pub tokens: TokenList,
+    pub tokens: CompactTokens,
     pub placed: u64,
     pub numbers: Vec<u32>,
     pub lowest: u64,
@@ -27,7 +27,7 @@ pub struct Bounds {
 
 // The level halfway between two that aren't neighbours.
 fn halfway(below: u64, above: u64) -> Option<u64>
-    ensures inside { MatchOption result (IsNear below above)
+    ensures inside { MatchOption result (AreNeighbours below above)
         (λ level. IsInside below above level) }
     ensures halfway { MatchOption result (Unit {0})
         (λ level. (suc below < above) × (level ≡ middle below above)) }
@@ -41,7 +41,7 @@ fn halfway(below: u64, above: u64) -> Option<u64>
 
 impl Bounds {
     /// A refuted level and a greater one that is placed, with nothing asked between them.
-    pub fn new(refuted: u64, tokens: TokenList, placed: u64, numbers: Vec<u32>) -> Bounds
+    pub fn new(refuted: u64, tokens: CompactTokens, placed: u64, numbers: Vec<u32>) -> Bounds
         ensures { plain_bounds result
             ≡ first_bounds refuted tokens placed numbers.items }
     {
@@ -56,8 +56,8 @@ impl Bounds {
     }
 
     /// The same two levels, with nothing asked between them.
-    pub fn afresh(self) -> Bounds
-        ensures { plain_bounds result ≡ afresh (plain_bounds self) }
+    pub fn without_attempts(self) -> Bounds
+        ensures { plain_bounds result ≡ without_attempts (plain_bounds self) }
     {
         Bounds::new(self.refuted, self.tokens, self.placed, self.numbers)
     }
@@ -66,7 +66,7 @@ impl Bounds {
     /// where these are neighbours, between the highest and the placed one. None comes exactly where
     /// these are neighbours too.
     pub fn next_level(&self) -> Option<u64>
-        ensures asked { MatchOption result (IsNarrow (plain_bounds self.now))
+        ensures asked { MatchOption result (HasNoLevelLeft (plain_bounds self.now))
             (IsAsked (plain_bounds self.now)) }
         ensures next { MatchOption result (Unit {0}) (IsAskedNext (plain_bounds self.now)) }
     {
@@ -78,10 +78,10 @@ impl Bounds {
 
     /// The level right beside an end: the one above the refuted level, or, where that is the
     /// lowest, the one below the placed level. None comes exactly where that is the highest too.
-    pub fn level_beside(&self) -> Option<u64>
-        ensures asked { MatchOption result (IsNarrow (plain_bounds self.now))
+    pub fn adjacent_level(&self) -> Option<u64>
+        ensures asked { MatchOption result (HasNoLevelLeft (plain_bounds self.now))
             (IsAsked (plain_bounds self.now)) }
-        ensures beside { MatchOption result (Unit {0}) (IsAskedBeside (plain_bounds self.now)) }
+        ensures beside { MatchOption result (Unit {0}) (IsAdjacentLevel (plain_bounds self.now)) }
     {
         if self.lowest.saturating_sub(self.refuted) > 1 {
             return Some(self.refuted + 1);
@@ -93,22 +93,22 @@ impl Bounds {
     }
 
     /// The level that is asked behind so many in vain, one after another: that of `next_level`, and
-    /// behind three and more that of `level_beside`.
+    /// behind three and more that of `adjacent_level`.
     ///
     /// A level in vain costs the whole budget. So where nothing can be decided it comes soon to the
     /// two levels beside the ends, and a wide gap costs no more than a narrow one; halved from both
     /// ends it cost twice as many levels as it has bits. Where the level beside an end is decided,
     /// more is, and it goes on halfway.
-    pub fn level_behind(&self, in_vain: u32) -> Option<u64>
-        ensures asked { MatchOption result (IsNarrow (plain_bounds self.now))
+    pub fn next_level_after_misses(&self, misses: u32) -> Option<u64>
+        ensures asked { MatchOption result (HasNoLevelLeft (plain_bounds self.now))
             (IsAsked (plain_bounds self.now)) }
         ensures next { MatchOption result (Unit {0})
-            (IsAskedAfter in_vain (plain_bounds self.now)) }
+            (IsLevelAfterMisses misses (plain_bounds self.now)) }
     {
-        if in_vain < MOST_IN_VAIN {
+        if misses < MAX_MISSES {
             self.next_level()
         } else {
-            self.level_beside()
+            self.adjacent_level()
         }
     }
 
@@ -155,12 +155,12 @@ impl Bounds {
 
 /// How many levels were asked in vain, one after another, behind one more: none where that one
 /// narrowed the gap.
-pub fn vain_behind(in_vain: u32, is_narrower: bool) -> u32
-    ensures { result ≡ vain_behind in_vain is_narrower }
+pub fn updated_misses(misses: u32, is_narrower: bool) -> u32
+    ensures { result ≡ updated_misses misses is_narrower }
 {
     if is_narrower {
         0
     } else {
-        in_vain.saturating_add(1)
+        misses.saturating_add(1)
     }
 }

@@ -4,5 +4,5 @@
 
 mod bounds;
 
-pub use bounds::{Bounds, vain_behind};
+pub use bounds::{Bounds, updated_misses};
 pub use level_search::Level;

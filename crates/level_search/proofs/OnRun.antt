@@ -1,7 +1,7 @@
 -- Whoever follows a run of levels stays on it.
 use Rattle.std.proofs.Common.{◌≡◌, ℕ, ◌<◌, ◌≤◌, inl, inr, sym, ap, subst, ◌∙◌, arith, true, if◌then◌else◌}
 use Rattle.tree_terms.specs.Levels.{PlainLevel, PlacedBy, RefutedBy, SpentAt, PlainReached, distance, halfway, moved}
-use Rattle.tree_terms.specs.Levels.{is_run_over, run_levels, IsLevelBetween}
+use Rattle.tree_terms.specs.Levels.{is_run_over, bisect_levels, IsLevelBetween}
 use Rattle.tree_terms.proofs.Runs.{not_over, halfway_between, run_ends, run_goes_on}
 use Rattle.level_search.specs.Runs.{IsNext}
 
@@ -10,13 +10,13 @@ abbrev pub decisions_left : PlainReached → ℕ
 decisions_left r = if r.spent then 0 else distance r
 
 pub run_stays : (answer : ℕ → PlainLevel) (r : PlainReached) (level : ℕ) → IsNext r level
-    → run_levels answer (moved r level (answer level)) ≡ run_levels answer r
+    → bisect_levels answer (moved r level (answer level)) ≡ bisect_levels answer r
 run_stays answer r level next =
-    ap (λ (k : ℕ). run_levels answer (moved r k (answer k))) next.1 ∙ sym (run_goes_on answer r next.0)
+    ap (λ (k : ℕ). bisect_levels answer (moved r k (answer k))) next.1 ∙ sym (run_goes_on answer r next.0)
 
 -- The two levels are on the run from the first two, and from low to high.
 pub record IsOnRun (answer : ℕ → PlainLevel) (low high : ℕ) (first r : PlainReached) : Type 0 where
-  pub run : run_levels answer r ≡ run_levels answer first
+  pub run : bisect_levels answer r ≡ bisect_levels answer first
   pub refuted : (low ≤ r.refuted) × (r.refuted ≤ high)
   pub placed : (low ≤ r.placed) × (r.placed ≤ high)
 
@@ -34,7 +34,7 @@ module _ (answer : ℕ → PlainLevel) (low high : ℕ) (first : PlainReached) w
       → a ≡ answer level → s ≡ moved r level a
       → IsOnRun answer low high first s
   on_run_next r s level a on next e m = subst (λ (x : PlainReached). IsOnRun answer low high first x) (sym m) (record {
-    run = ap (λ (x : PlainLevel). run_levels answer (moved r level x)) e ∙ (run_stays answer r level next ∙ on.run);
+    run = ap (λ (x : PlainLevel). bisect_levels answer (moved r level x)) e ∙ (run_stays answer r level next ∙ on.run);
     refuted = stays_refuted a;
     placed = stays_placed a;
   })
@@ -54,5 +54,5 @@ module _ (answer : ℕ → PlainLevel) (low high : ℕ) (first : PlainReached) w
 
   -- where it goes no further, it is the end of the run
   pub run_told : (r : PlainReached) → IsOnRun answer low high first r → is_run_over r ≡ true
-      → r ≡ run_levels answer first
+      → r ≡ bisect_levels answer first
   run_told r on over = sym (run_ends answer r over) ∙ on.run

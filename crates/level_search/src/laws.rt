@@ -1,6 +1,6 @@
 //! What the steps of a run promise, the contract of a function with an empty body.
 ghost use Rattle.std.specs.Prelude.{◌≡◌, ℕ, true};
-ghost use Rattle.tree_terms.specs.Levels.{PlainLevel, PlainReached, moved, is_run_over, run_levels};
+ghost use Rattle.tree_terms.specs.Levels.{PlainLevel, PlainReached, moved, is_run_over, bisect_levels};
 ghost use Rattle.level_search.specs.Runs.{IsNext};
 
 /// Whoever goes on by the answers at the levels that are next, until none is, comes to where the
@@ -8,7 +8,7 @@ ghost use Rattle.level_search.specs.Runs.{IsNext};
 /// level is next it has ended.
 pub fn followed_runs_are_runs()
     ensures step { (answer : ℕ → PlainLevel) (r : PlainReached) (level : ℕ) → IsNext r level
-        → run_levels answer (moved r level (answer level)) ≡ run_levels answer r }
+        → bisect_levels answer (moved r level (answer level)) ≡ bisect_levels answer r }
     ensures end { (answer : ℕ → PlainLevel) (r : PlainReached) → is_run_over r ≡ true
-        → run_levels answer r ≡ r }
+        → bisect_levels answer r ≡ r }
 {}

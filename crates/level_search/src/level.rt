@@ -4,14 +4,14 @@ ghost use Rattle.tree_terms.specs.Levels.{level_by};
 ghost use Rattle.work_share.specs.Outcomes.{plain_outcome};
 ghost use Rattle.level_search.specs.Runs.{plain_level};
 
-use proof_tree::{Outcome, TokenList};
+use proof_tree::{CompactTokens, Outcome};
 
 /// What is answered at a level: numbers that show it, tokens that refute it, or that its tree is
 /// past the budget.
 #[derive(Drop)]
 pub enum Level {
     Fits(Vec<u32>),
-    Refuted(TokenList),
+    Refuted(CompactTokens),
     Spent,
 }
 
@@ -20,7 +20,7 @@ pub enum Level {
 #[derive(Drop)]
 pub struct Reached {
     pub refuted: u64,
-    pub tokens: TokenList,
+    pub tokens: CompactTokens,
     pub placed: u64,
     pub numbers: Vec<u32>,
     pub spent: bool,

@@ -4,11 +4,11 @@ ghost use Rattle.tree_terms.specs.Levels.{is_run_over, halfway, moved};
 ghost use Rattle.level_search.specs.Runs.{plain_level, plain_reached, first_two, IsNext};
 
 use crate::{Level, Reached};
-use proof_tree::TokenList;
+use proof_tree::CompactTokens;
 
 impl Reached {
     /// The first two levels of a run: the tokens refute the one, and the numbers show the other.
-    pub fn starting(refuted: u64, tokens: TokenList, placed: u64, numbers: Vec<u32>) -> Reached
+    pub fn starting(refuted: u64, tokens: CompactTokens, placed: u64, numbers: Vec<u32>) -> Reached
         ensures { plain_reached result
             ≡ first_two refuted tokens placed numbers.items }
     {

@@ -3,7 +3,7 @@ ghost use Rattle.std.specs.Prelude.{◌≡◌, ◌==◌, ◌<◌, ◌≤◌, ◌
 ghost use Rattle.std.specs.List.{list_any, All};
 ghost use Rattle.packing_terms.specs.Packing.{dims, box_count};
 ghost use Rattle.packing_terms.specs.Exclusions.{excludes};
-ghost use Rattle.packing_terms.specs.Limits.{most_boxes};
+ghost use Rattle.packing_terms.specs.Limits.{max_boxes};
 ghost use Rattle.explained_terms.specs.Judging.{goes_on, part_of, chain_changes, is_first, has_all, last_of, front_of};
 ghost use Rattle.explained_terms.specs.Kept.{IsGrown};
 ghost use Rattle.line_proofs.specs.Chains.{chain_at};
@@ -70,8 +70,8 @@ pub(crate) fn changes(
     requires after { All (λ u. u < box_count instance.now) after.now }
     requires some_before { 1 ≤ length before.now }
     requires some_after { 1 ≤ length after.now }
-    requires few_before { length before.now ≤ most_boxes }
-    requires few_after { length after.now ≤ most_boxes }
+    requires few_before { length before.now ≤ max_boxes }
+    requires few_after { length after.now ≤ max_boxes }
     ensures { result
         ≡ chain_changes instance.now state.now.trail (chain_at begun before.now after.now) }
 {

@@ -17,7 +17,7 @@ use Rattle.rule_terms.proofs.Runs.{run_more}
 use Rattle.edge_state.specs.BitRows.{row_has}
 use Rattle.edge_state.specs.Edges.{PlainEdges}
 use Rattle.orientation_rules.specs.Weights.{HasOneWayChains, IsHeaviest, AreWeights, IsWeighedAt}
-use Rattle.orientation_rules.specs.KeptWeights.{GoesOn, AreSettled, AreKeptWeights, StillHolds}
+use Rattle.orientation_rules.specs.CachedChainWeights.{GoesOn, AreSettled, AreKeptWeights, StillHolds}
 
 module _ (n : ℕ) (R S : ℕ → ℕ → Type 0) (w z : ℕ → ℕ) (also : (u y : ℕ) → u < n → y < n → u ≢ y → R u y → S u y)
     (same : (u : ℕ) → u < n → w u ≡ z u) where

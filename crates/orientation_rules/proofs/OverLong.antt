@@ -3,7 +3,7 @@ use Rattle.std.proofs.Common.{◌≡◌, ℕ, ◌+◌, ◌-◌, ◌<◌, ◌≤�
 use Rattle.std.proofs.Common.{◌&&◌, ◌||◌, eqb, ltb, subst, List, [], length, slice_index, get_or}
 use Rattle.std.proofs.lemmas.Bool.{true≢false, eqb-true, ltb-true, lt-ltb, cases_Bool, cases_lt}
 use Rattle.edge_state.specs.BitRows.{row_has}
-use Rattle.orientation_rules.specs.KeptWeights.{AreKeptWeights}
+use Rattle.orientation_rules.specs.CachedChainWeights.{AreKeptWeights}
 use Rattle.orientation_rules.proofs.KeptRuns.{get_any}
 
 pub not_below : (a b : ℕ) → b ≤ a → ltb a b ≡ false

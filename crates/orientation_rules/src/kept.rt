@@ -7,11 +7,11 @@ ghost use Rattle.edge_state.specs.BitRows.{IsRowWidth, row_has, HoldsBoxes};
 ghost use Rattle.rule_terms.specs.declared.Direction.TheVariants.{Forwards, Backwards};
 ghost use Rattle.rule_terms.specs.Runs.{Leads};
 ghost use Rattle.orientation_rules.specs.Weights.{HasOneWayChains, IsHeaviest};
-ghost use Rattle.orientation_rules.specs.KeptWeights.{GoesOn, StillHolds, StillHold, AreHeaviestWeights};
+ghost use Rattle.orientation_rules.specs.CachedChainWeights.{GoesOn, StillHolds, StillHold, AreHeaviestWeights};
 
-use crate::leads::leads_row;
+use crate::incremental::{raise_heads, raise_tails};
 use crate::refills::{clear_rows, drop_members, empty_rows, refill, refill_rows, write_sides};
-use crate::rises::{raise_heads, raise_tails};
+use crate::successors::successor_row;
 use box_instances::{Instance, NoMemory};
 use edge_state::{BitRow, EdgeState};
 use rule_terms::Direction;
@@ -22,7 +22,7 @@ use std::marker::Model;
 /// box in a chain, and with the boxes beside which each is known to fit. There is memory for `most`
 /// boxes, and weights of at most as many.
 #[derive(Drop)]
-pub struct KeptWeights<const K: usize> {
+pub struct CachedChainWeights<const K: usize> {
     most: u32,
     limit: u64,
     sides: Vec<u64>,
@@ -32,9 +32,9 @@ pub struct KeptWeights<const K: usize> {
     fits: Vec<BitRow<K>>,
 }
 
-impl<const K: usize> Model for KeptWeights<K> {
+impl<const K: usize> Model for CachedChainWeights<K> {
     ghost use Rattle.std.specs.Prelude.{vec_capacity};
-    ghost use Rattle.orientation_rules.specs.KeptWeights.{PlainWeights, AreRoomy};
+    ghost use Rattle.orientation_rules.specs.CachedChainWeights.{PlainWeights, AreRoomy};
 
     ghost Value = { PlainWeights };
 
@@ -129,7 +129,7 @@ fn still_holds<const K: usize>(
     for v in 0..instance.len() {
         let at = v as usize;
         let kept = rows[at];
-        let now = leads_row(state, dim, Direction::Forwards, v);
+        let now = successor_row(state, dim, Direction::Forwards, v);
         if sides[at] != u64::from(instance.side(v, dim)) {
             return false;
         }
@@ -167,7 +167,7 @@ fn set_rows<const K: usize>(
     let mut rest = boxes;
     while let Some(v) = rest.first() {
         rest = rest.without(v);
-        rows[v as usize] = leads_row(state, dim, Direction::Forwards, v);
+        rows[v as usize] = successor_row(state, dim, Direction::Forwards, v);
     }
 }
 
@@ -184,7 +184,7 @@ fn boxes_ahead<const K: usize>(instance: &Instance, state: &EdgeState, dim: u32)
     let _boxes = state.boxes();
     let mut ahead = BitRow::empty();
     for v in 0..instance.len() {
-        let row = leads_row::<K>(state, dim, Direction::Forwards, v);
+        let row = successor_row::<K>(state, dim, Direction::Forwards, v);
         ahead = with_if_any(ahead, v, row);
     }
     ahead
@@ -222,9 +222,9 @@ fn heavier<const K: usize>(row: BitRow<K>, weights: &[u64], most: u64) -> BitRow
     heavy
 }
 
-impl<const K: usize> KeptWeights<K> {
+impl<const K: usize> CachedChainWeights<K> {
     /// Room for `boxes` boxes. Nothing is known of any chain.
-    pub fn new(alloc: Global, boxes: u32) -> Result<KeptWeights<K>, NoMemory>
+    pub fn new(alloc: Global, boxes: u32) -> Result<CachedChainWeights<K>, NoMemory>
         requires { IsRowWidth K }
         ensures { IfOk result (λ kept. (length kept.head ≡ boxes) × (kept.most ≡ boxes)) }
     {
@@ -243,7 +243,7 @@ impl<const K: usize> KeptWeights<K> {
         let Ok(fits) = vec![in alloc; BitRow::empty(); boxes as usize] else {
             return Err(NoMemory);
         };
-        Ok(KeptWeights {
+        Ok(CachedChainWeights {
             most: boxes,
             limit: 0,
             sides,
@@ -329,7 +329,7 @@ impl<const K: usize> KeptWeights<K> {
     }
 
     /// Makes them others that were kept, of as many boxes.
-    pub fn copy_from(&mut self, from: &KeptWeights<K>)
+    pub fn copy_from(&mut self, from: &CachedChainWeights<K>)
         requires { length from.now.head ≡ length self.old.head }
         ensures { self.new ≡ record from.now { most = self.old.most } }
     {

@@ -7,9 +7,9 @@ ghost use Rattle.rule_terms.specs.declared.Direction.TheVariants.{Forwards, Back
 ghost use Rattle.rule_terms.specs.Places.{HasNoEmptyMask};
 ghost use Rattle.rule_terms.specs.Runs.{IsTransitive, AreHeaviestHeads, AreHeaviestTails};
 ghost use Rattle.orientation_rules.specs.Weights.{HasOneWayChains};
-ghost use Rattle.orientation_rules.specs.KeptWeights.{AreHeaviestWeights};
+ghost use Rattle.orientation_rules.specs.CachedChainWeights.{AreHeaviestWeights};
 
-use crate::kept::KeptWeights;
+use crate::kept::CachedChainWeights;
 use box_instances::{Instance, NoMemory};
 use edge_state::{BitRow, EdgeState};
 use std::alloc::Global;
@@ -22,18 +22,18 @@ use std::marker::Model;
 /// It is seen as the number of boxes, how many it was made for, and the weights that were made
 /// last.
 #[derive(Drop)]
-pub struct KeptLevels<const K: usize> {
+pub struct ChainWeightCache<const K: usize> {
     boxes: u32,
     most: u32,
     used: usize,
     rose: bool,
     fresh: bool,
-    work: KeptWeights<K>,
-    levels: Vec<KeptWeights<K>>,
+    work: CachedChainWeights<K>,
+    levels: Vec<CachedChainWeights<K>>,
 }
 
-impl<const K: usize> Model for KeptLevels<K> {
-    ghost use Rattle.orientation_rules.specs.KeptWeights.{PlainLevels, AreKeptLevels};
+impl<const K: usize> Model for ChainWeightCache<K> {
+    ghost use Rattle.orientation_rules.specs.CachedChainWeights.{PlainLevels, AreKeptLevels};
 
     ghost Value = { PlainLevels };
 
@@ -42,21 +42,21 @@ impl<const K: usize> Model for KeptLevels<K> {
     ghost invariant = { λ k. AreKeptLevels k.boxes k.most k.used k.work k.levels.items };
 }
 
-impl<const K: usize> KeptLevels<K> {
+impl<const K: usize> ChainWeightCache<K> {
     /// Room for `count` levels, each for `boxes` boxes. None is in use.
-    pub fn new(alloc: Global, boxes: u32, count: u32) -> Result<KeptLevels<K>, NoMemory>
+    pub fn new(alloc: Global, boxes: u32, count: u32) -> Result<ChainWeightCache<K>, NoMemory>
         requires { IsRowWidth K }
         ensures { IfOk result (λ kept. (kept.boxes ≡ boxes) × (kept.most ≡ boxes)) }
     {
-        let work = KeptWeights::new(alloc, boxes)?;
+        let work = CachedChainWeights::new(alloc, boxes)?;
         let mut levels = Vec::new(alloc);
         for _ in 0..count {
-            let level = KeptWeights::new(alloc, boxes)?;
+            let level = CachedChainWeights::new(alloc, boxes)?;
             let Ok(()) = levels.push(level) else {
                 return Err(NoMemory);
             };
         }
-        Ok(KeptLevels {
+        Ok(ChainWeightCache {
             boxes,
             most: boxes,
             used: 0,
@@ -158,7 +158,7 @@ impl<const K: usize> KeptLevels<K> {
     /// Makes the weights of the heaviest chains of a state, from those that were kept where these
     /// serve. No mask is empty, and surely before is transitive in this dimension, as COMPOSE makes
     /// it.
-    pub fn renew(&mut self, instance: &Instance, state: &EdgeState, dim: u32)
+    pub fn update_from_cache(&mut self, instance: &Instance, state: &EdgeState, dim: u32)
         requires words { HoldsBoxes K state.now.boxes }
         requires room { self.old.boxes ≡ box_count instance.now }
         requires dims { state.now.dims ≡ dims instance.now }
@@ -185,7 +185,7 @@ impl<const K: usize> KeptLevels<K> {
 
     // Gives up every other level, the older of each two, so that there is room on top. Levels that
     // stay for long so stand farther apart the older they are.
-    fn thin(&mut self)
+    fn evict_every_other(&mut self)
         ensures { self.new ≡ self.old }
     {
         let half = self.levels.len() / 2;
@@ -221,7 +221,7 @@ impl<const K: usize> KeptLevels<K> {
             return;
         }
         if self.used >= self.levels.len() {
-            self.thin();
+            self.evict_every_other();
         }
         self.push();
         self.fresh = false;

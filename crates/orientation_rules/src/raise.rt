@@ -6,7 +6,7 @@ ghost use Rattle.edge_state.specs.BitRows.{row_has, HoldsBoxes};
 ghost use Rattle.rule_terms.specs.Runs.{Leads};
 ghost use Rattle.orientation_rules.specs.Weights.{HasOneWayChains, AreWeights, IsRaised, IsWeighedAt, OthersStay};
 
-use crate::leads::leads_row;
+use crate::successors::successor_row;
 use box_instances::Instance;
 use edge_state::{BitRow, EdgeState};
 use rule_terms::Direction;
@@ -99,7 +99,7 @@ fn raise_from<const K: usize>(
     ensures weighed { (x : ℕ) → x < box_count instance.now
         → IsWeighedAt instance.now state.now dim direction into.new v x }
 {
-    let row = leads_row::<K>(state, dim, direction, v);
+    let row = successor_row::<K>(state, dim, direction, v);
     raise_along(instance, state, dim, direction, v, row, into)
 }
 

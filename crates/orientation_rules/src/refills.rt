@@ -2,7 +2,7 @@
 ghost use Rattle.std.specs.Prelude.{◌≡◌, ◌<◌, ◌≤◌, ℕ, false, length, slice_index, replicate, vec_capacity};
 ghost use Rattle.packing_terms.specs.Packing.{dims, box_count, side};
 ghost use Rattle.edge_state.specs.BitRows.{IsRowWidth, row_has};
-ghost use Rattle.orientation_rules.specs.KeptWeights.{GoesOn};
+ghost use Rattle.orientation_rules.specs.CachedChainWeights.{GoesOn};
 
 use box_instances::Instance;
 use edge_state::BitRow;

@@ -5,7 +5,7 @@ use Rattle.std.specs.Prelude.{ℕ, ◌≡◌, ◌≤◌, Bool, true, false, List
 use Rattle.std.specs.Prelude.{Err}
 use Rattle.packing_terms.specs.declared.Exclusion.{Exclusion}
 use Rattle.packing_terms.specs.Packing.{PlainInstance, box_count}
-use Rattle.packing_terms.specs.Limits.{most_boxes}
+use Rattle.packing_terms.specs.Limits.{max_boxes}
 use Rattle.packing_terms.specs.Scales.{SidesFit}
 use Rattle.packing_terms.specs.Tokens.{PlainToken}
 use Rattle.packing_terms.specs.OuterRefutation.{Bins as UsedBins, Choice as BoxChoice, no_choice}
@@ -125,7 +125,7 @@ AreOf (Value y) frames = HaveChildren choices_with no_choice frames
 -- for bins no box exceeds the container, and they are at most as many as the boxes of the largest
 -- instance
 abbrev pub CanBeRefuted : PlainInstance → Goal → Type 0
-CanBeRefuted instance (Bins k) = SidesFit instance × (k ≤ most_boxes)
+CanBeRefuted instance (Bins k) = SidesFit instance × (k ≤ max_boxes)
 CanBeRefuted instance (Value y) = Unit {0}
 
 -- in the inner tree of a set some node is open

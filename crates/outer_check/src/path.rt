@@ -1,7 +1,7 @@
 //! The splits on the path to the current node of an outer tree.
 ghost use Rattle.std.specs.Prelude.{◌≡◌, ◌≤◌, ◌<◌, ◌&&◌, ◌==◌, ◌∷◌, ◌++◌, [], suc, false, length, if◌then◌else◌, IfOk, MatchOption, vec_capacity};
 ghost use Rattle.std.specs.List.{list_any};
-ghost use Rattle.packing_terms.specs.Limits.{IsBoxCount, most_boxes};
+ghost use Rattle.packing_terms.specs.Limits.{IsBoxCount, max_boxes};
 ghost use Rattle.outer_check.specs.declared.path.Frame.{Frame as PlainFrame};
 ghost use Rattle.outer_check.specs.Frames.{ArePath, first_split, is_decided, is_put, is_some_put, boxes_put, used_behind, next_frames, is_some_frame, IsNewest};
 
@@ -108,7 +108,7 @@ impl Path {
 
     /// Whether a split puts the box, counted from 0, into its child of this number.
     pub fn is_put(&self, child: u32, v: u32) -> bool
-        requires { v < most_boxes }
+        requires { v < max_boxes }
         ensures { result ≡ is_put self.now.frames child v }
     {
         has_put(self.frames.as_slice(), v + 1, child)

@@ -2,7 +2,7 @@
 ghost use Rattle.std.specs.Prelude.{◌≡◌, ◌≤◌, ◌<◌, ◌+◌, if◌then◌else◌, Some, None};
 ghost use Rattle.packing_terms.specs.Packing.{box_count, value};
 ghost use Rattle.packing_terms.specs.Goals.{worth};
-ghost use Rattle.packing_terms.specs.Limits.{most_boxes};
+ghost use Rattle.packing_terms.specs.Limits.{max_boxes};
 ghost use Rattle.packing_terms.specs.Tokens.PlainToken.{Assign as PlainAssign, Choose as PlainChoose, SetRefuted as PlainSetRefuted, ValueShort as PlainValueShort, GlobalScales as PlainGlobalScales};
 ghost use Rattle.proof_tree.specs.Plain.{plain_token};
 ghost use Rattle.check_terms.specs.Judging.{names_box};
@@ -42,7 +42,7 @@ pub(crate) fn names_box(instance: &Instance, box_no: u32) -> bool
 
 // A tuple of scale functions for `bins` containers.
 fn scales_step(instance: &Instance, path: &Path, bins: u32, tuple: &[ScaleFn]) -> Step
-    requires few { bins ≤ most_boxes }
+    requires few { bins ≤ max_boxes }
     requires are { AreOf (PlainBins bins) path.now.frames }
     ensures { IsTokenStep instance.now (PlainBins bins) path.now.frames
         (PlainGlobalScales tuple.now) result }
@@ -63,7 +63,7 @@ fn bin_count(bins: u32, used: u32) -> u32
 // A box that has no bin yet goes into each used bin, and then into a new one.
 fn assign_step(instance: &Instance, path: &Path, bins: u32, box_no: u32) -> Step
     requires boxes { path.now.boxes ≡ box_count instance.now }
-    requires few { bins ≤ most_boxes }
+    requires few { bins ≤ max_boxes }
     requires are { AreOf (PlainBins bins) path.now.frames }
     ensures { IsTokenStep instance.now (PlainBins bins) path.now.frames (PlainAssign box_no)
         result }
@@ -106,7 +106,7 @@ fn bin_step(instance: &Instance, path: &Path, bins: u32, bin: u32) -> Step
 /// What a token does at the node for bins that the path leads to.
 pub(crate) fn step_for_bins(instance: &Instance, path: &Path, bins: u32, token: &Token) -> Step
     requires boxes { path.now.boxes ≡ box_count instance.now }
-    requires few { bins ≤ most_boxes }
+    requires few { bins ≤ max_boxes }
     requires are { AreOf (PlainBins bins) path.now.frames }
     ensures { IsTokenStep instance.now (PlainBins bins) path.now.frames (plain_token token.now)
         result }
@@ -150,7 +150,7 @@ fn value_where(instance: &Instance, v: u32, test: bool) -> u64
     requires { v < box_count instance.now }
     ensures value { result ≡ (if test then value instance.now v else 0) }
     ensures limit { result ≤ 1000000000 }
-    ensures boxes { box_count instance.now ≤ most_boxes }
+    ensures boxes { box_count instance.now ≤ max_boxes }
 {
     // For the proof alone: tells the limits of the instance.
     let _count = instance.len();

@@ -7,7 +7,7 @@
 use crate::closing::{OpenSet, Reason};
 use crate::order::decision_order;
 use box_instances::{Instance, NoMemory};
-use loose_lists::{at, pushed};
+use lenient_lists::{at, pushed};
 use proof_tree::Token;
 use std::alloc::Global;
 

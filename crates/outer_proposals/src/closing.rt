@@ -5,7 +5,7 @@ use crate::pairs::exclusion_rows;
 use crate::slots::{bit, entry, write};
 use crate::tuples::{Tuple, tuples};
 use box_instances::{Instance, NoMemory};
-use loose_lists::{at, pushed};
+use lenient_lists::{at, pushed};
 use proof_tree::Token;
 use std::alloc::Global;
 

@@ -5,7 +5,7 @@ use Rattle.packing_terms.specs.Packing.{PlainInstance}
 use Rattle.packing_terms.specs.Limits.{IsInstance}
 use Rattle.answer_terms.specs.declared.job.DocumentJob.{DocumentJob}
 use Rattle.answer_terms.specs.Answers.{status_of}
-use Rattle.pack_streams.specs.Writing.{GainsPart}
+use Rattle.pack_streams.specs.Writing.{AppendedPrefix}
 use Rattle.text_terms.specs.declared.settings.Settings.{Settings}
 use Rattle.answer_streams.specs.declared.solution.Solution.{Solution}
 use Rattle.answer_streams.specs.Solutions.{answer_found, solution_text, IsSolution}
@@ -32,7 +32,7 @@ module _ (words : List (String Global)) (old new sunk_old sunk_new : Option (Lis
     document_is = found.text;
   }
 
-  pub answer_cut : GainsPart sunk_old sunk_new (solution_text instance solution)
+  pub answer_cut : AppendedPrefix sunk_old sunk_new (solution_text instance solution)
       → IsDocumentPartlyWritten words old new sunk_old sunk_new
   answer_cut part = record {
     status = status_of (answer_found solution);

@@ -7,7 +7,7 @@ use Rattle.document_terms.specs.declared.claim.Claim.{Claim}
 use Rattle.answer_terms.specs.declared.job.DocumentJob.{DocumentJob}
 use Rattle.text_terms.specs.declared.settings.Settings.{Settings}
 use Rattle.std.specs.Io.KnownBytes.{IsAtEnd}
-use Rattle.pack_streams.specs.Moves.{Gives, Gains}
+use Rattle.pack_streams.specs.Moves.{Consumed, Appended}
 use Rattle.verdict_terms.specs.declared.heading.Heading.TheVariants.{Reduced, Bounded}
 use Rattle.verdict_terms.specs.Documents.{Refusal, reduced_verdict, reduced_verdict_line, bounded_verdict}
 use Rattle.verdict_terms.specs.Documents.{bounded_verdict_line}
@@ -196,7 +196,7 @@ true_verdict bytes OfFront zero = go (front_document_verdict bytes) refl zero
 
 -- what is verified was taken to its end
 taken_whole : (old new : Option (List ℕ)) (bytes : List ℕ) → audit_status (audit_verdict bytes) ≡ 0
-    → IsDocumentTaken Audits old new bytes → Gives old new bytes × IsAtEnd new
+    → IsDocumentTaken Audits old new bytes → Consumed old new bytes × IsAtEnd new
 taken_whole old new bytes zero (inl (held, whole)) = (whole.taken, whole.ended)
 taken_whole old new bytes zero (inr some) = (
   some.taken,
@@ -219,7 +219,7 @@ audited_claimed old new sunk_old sunk_new status zero a =
       taken = whole.0;
       ended = whole.1;
       holds = true_verdict a.bytes (document_kind a.bytes) verified;
-      line = subst (λ t. Gains sunk_old sunk_new t) a.comes.1 a.written;
+      line = subst (λ t. Appended sunk_old sunk_new t) a.comes.1 a.written;
     }
 
 -- ---- how a verdict is told

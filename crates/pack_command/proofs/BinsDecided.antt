@@ -15,7 +15,7 @@ use Rattle.answer_terms.specs.Answers.Answer.{Claimed}
 use Rattle.answer_terms.specs.Solved.{solved, bins_answer, reached_claim}
 use Rattle.answer_terms.proofs.Shown.{answers_shown}
 use Rattle.answer_terms.proofs.True.{answers_true}
-use Rattle.pack_streams.specs.Moves.{Gains}
+use Rattle.pack_streams.specs.Moves.{Appended}
 use Rattle.text_terms.specs.declared.settings.Settings.{Settings}
 use Rattle.pack_command.specs.Answered.{answer_for}
 use Rattle.pack_command.specs.FewestBins.{AreBinsDecided}
@@ -40,7 +40,7 @@ module _ (settings : Settings) (instance : PlainInstance) (limits : IsInstance i
       run.numbers run.tokens) s
 
   reached : (b : Bool) → first_too_large_box instance ≡ None → run.spent ≡ b
-      → Gains old new (answer_text instance
+      → Appended old new (answer_text instance
       (Claimed (reached_claim b (LeastBins run.placed) (BinsBetween run.refuted run.placed)) run.numbers
       run.tokens))
       → AreBinsDecided instance settings old new
@@ -82,7 +82,7 @@ module _ (settings : Settings) (instance : PlainInstance) (limits : IsInstance i
       }))
 
   by_first : (p : Option (ℕ × ℕ)) → first_too_large_box instance ≡ p
-      → Gains old new (answer_text instance (bins_answer p run))
+      → Appended old new (answer_text instance (bins_answer p run))
       → AreBinsDecided instance settings old new (status_of (bins_answer p run))
   by_first (Some p) e g =
       let none = answers_true Bins settings.budget settings.scales instance NoBins _ _ limits (by_large (Some p) e) in
@@ -97,7 +97,7 @@ module _ (settings : Settings) (instance : PlainInstance) (limits : IsInstance i
   by_first None e g = reached run.spent e refl g
 
   -- the answer of `bins` is the least number of bins, two numbers between which it lies, or none
-  pub bins_decided : Gains old new (answer_for (Solves Bins) settings instance).text
+  pub bins_decided : Appended old new (answer_for (Solves Bins) settings instance).text
       → AreBinsDecided instance settings old new (answer_for (Solves Bins) settings instance).status
   unfolding solved
   bins_decided g = by_first (first_too_large_box instance) refl g

@@ -11,7 +11,7 @@ use Rattle.answer_streams.specs.Audited.{verdict_of_kind, BoundedVerdictOf}
 use Rattle.bounded_terms.specs.BoundedRefutation.{IsBoundedRefutation}
 use Rattle.answer_terms.specs.BoundedAnswers.{BoundedAnswer, bounded_claim, bounded_text}
 use Rattle.answer_terms.proofs.BoundedOwn.{own_bounded_verified, bounded_answers_true, bounded_claims_told}
-use Rattle.pack_streams.specs.Moves.{Gains}
+use Rattle.pack_streams.specs.Moves.{Appended}
 use Rattle.pack_command.specs.Asked.{ValueBounds, IsProposalRun}
 use Rattle.pack_command.specs.Bounded.{IsBoundedFound, IsBoundedDecided, IsBoundsAmple, IsOwnBounded}
 use Rattle.pack_command.specs.Proposed.{IsProposedWritten}
@@ -21,12 +21,12 @@ use Rattle.pack_command.proofs.ProposedDecided.{told_limits, told_found}
 
 module _ (proposals : Bool) (settings : Settings) (instance : PlainInstance) (limits : IsInstance instance)
     (old new : Option (List ℕ)) (status : ℕ) (document : List ℕ)
-    (found : IsBoundedFound proposals settings instance status document) (gains : Gains old new document) where
+    (found : IsBoundedFound proposals settings instance status document) (gains : Appended old new document) where
   abbrev answer : BoundedAnswer
   answer = found.answer
 
-  written : Gains old new (bounded_text instance answer)
-  written = subst (λ (text : List ℕ). Gains old new text) found.document_is gains
+  written : Appended old new (bounded_text instance answer)
+  written = subst (λ (text : List ℕ). Appended old new text) found.document_is gains
 
   greatest_by : suc answer.placed ≡ answer.refuted
       → IsBoundedDecided proposals instance settings old new status
@@ -38,7 +38,7 @@ module _ (proposals : Bool) (settings : Settings) (instance : PlainInstance) (li
     packing = (found.is).packing;
     tokens = answer.tokens;
     refutation = subst (λ (b : ℕ). IsBoundedRefutation instance b answer.tokens) (sym same) (found.is).refutation;
-    written = subst (λ (b : ℕ). Gains old new (bounded_text instance
+    written = subst (λ (b : ℕ). Appended old new (bounded_text instance
         (record { placed = answer.placed; numbers = answer.numbers; refuted = b; tokens = answer.tokens })))
         (sym same) written;
   })

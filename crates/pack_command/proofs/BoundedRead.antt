@@ -2,7 +2,7 @@
 use Rattle.std.proofs.Common.{◌≡◌, ℕ, inl, inr, refl, sym, subst, List}
 use Rattle.std.proofs.Common.{Option, Ok, Err, Vec, Global}
 use Rattle.pack_streams.specs.Faults.{FaultCount, Stays}
-use Rattle.pack_streams.specs.Moves.{Gives}
+use Rattle.pack_streams.specs.Moves.{Consumed}
 use Rattle.pack_streams.proofs.Faults.{stays_on, fails_then}
 use Rattle.text_terms.specs.Feeding.{Lexer}
 use Rattle.document_terms.specs.declared.claim.SolvingJob.{SolvingJob}
@@ -46,7 +46,7 @@ module _ (old mid new : Option (List ℕ)) (before between now : FaultCount) (s 
       subst AreByLines (sym begins.1)
       (begun_by_lines max_audit_bytes begun.opening begins.0 begun.within begun.told begun.kind)
 
-  told : (taken : List ℕ) (verdict : Verdict) → AreByLines taken → Gives old new taken
+  told : (taken : List ℕ) (verdict : Verdict) → AreByLines taken → Consumed old new taken
       → bounded_verdict taken ≡ plain_verdict verdict → HasVerdictUnder Bounded new taken (plain_verdict verdict)
       → IsAuditRead old new (Ok (ToldBounded verdict))
   told taken verdict lines gives is enough = (

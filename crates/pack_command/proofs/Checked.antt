@@ -3,7 +3,7 @@ use Rattle.std.proofs.Common.{◌≡◌, ℕ, ◌<◌, ◌≤◌, ◌+◌, ◌-�
 use Rattle.std.proofs.Common.{arith, Option, Some, None, Result, Ok, Err, String, Global}
 use Rattle.std.proofs.Math.Seq.{take-append-add}
 use Rattle.document_terms.specs.declared.claim.Claim.{Claim}
-use Rattle.pack_streams.specs.Moves.{Gives, Gains}
+use Rattle.pack_streams.specs.Moves.{Consumed, Appended}
 use Rattle.answer_terms.specs.declared.job.DocumentJob.{DocumentJob}
 use Rattle.pack_words.specs.declared.job.JobWords.{JobWords}
 use Rattle.pack_words.proofs.Walking.{some_inj}
@@ -17,7 +17,7 @@ use Rattle.verdict_terms.proofs.FormGiven.{documents_have_form}
 use Rattle.verdict_terms.proofs.True.{documents_are_true}
 use Rattle.verdict_terms.specs.Fed.{NoneRefused, NoneRefusedUnder}
 use Rattle.document_lines.specs.Reading.{AreEnoughUnder}
-use Rattle.document_check.specs.Checked.{most_document_bytes}
+use Rattle.document_check.specs.Checked.{max_check_bytes}
 use Rattle.pack_command.specs.declared.stop.Stop.{Stop}
 use Rattle.pack_command.specs.Asked.{document_job, AsksToSolve, AsksCheck}
 use Rattle.answer_streams.specs.Verdicts.{verdict_status}
@@ -86,14 +86,14 @@ judged_done words old new sunk_old sunk_new status asks (inr (inr (inr (inr (inr
     absurd (proposed_checks words p.job p.settings p.answered.asked asks)
 
 -- what was taken, and the rest of the bytes
-pub told_rest : (old left : Option (List ℕ)) (taken bytes : List ℕ) → old ≡ Some bytes → Gives old left taken
+pub told_rest : (old left : Option (List ℕ)) (taken bytes : List ℕ) → old ≡ Some bytes → Consumed old left taken
     → (rest : List ℕ) × (bytes ≡ taken ++ rest)
 told_rest old None taken bytes is gives = absurd (cc (is, gives))
 told_rest old (Some rest) taken bytes is gives = (rest, some_inj (sym is ∙ gives))
 
 -- the verdict that was reached is that of all bytes
 pub reached_under : (heading : Heading) (old left : Option (List ℕ)) (taken bytes : List ℕ)
-    (verdict : Result Claim Refusal) → old ≡ Some bytes → Gives old left taken
+    (verdict : Result Claim Refusal) → old ≡ Some bytes → Consumed old left taken
     → HasVerdictUnder heading left taken verdict → headed_verdict heading bytes ≡ verdict
 reached_under heading old left taken bytes (Ok claim) is gives reached =
     ap (headed_verdict heading) (sym (taken_all old left taken bytes is gives reached.2)) ∙ reached.0
@@ -114,17 +114,17 @@ judged_exactly old new sunk_old sunk_new status bytes is judged =
     reached_under Answer old new found.taken bytes judged.verdict is found.gives found.reached in
     record {
       status_is = judged.status_is ∙ ap verdict_status (sym same);
-      line = subst (λ v. Gains sunk_old sunk_new (verdict_line v)) (sym same) judged.line;
+      line = subst (λ v. Appended sunk_old sunk_new (verdict_line v)) (sym same) judged.line;
     }
 
 -- no verdict is reached on more bytes than are read, where no whole line within these is refused
 pub found_under : (heading : Heading) (old new : Option (List ℕ)) (bytes : List ℕ) → old ≡ Some bytes
-    → most_document_bytes < length bytes → NoneRefusedUnder heading (take most_document_bytes bytes)
-    → (taken : List ℕ) → Gives old new taken
+    → max_check_bytes < length bytes → NoneRefusedUnder heading (take max_check_bytes bytes)
+    → (taken : List ℕ) → Consumed old new taken
     → (verdict : Result Claim Refusal) → HasVerdictUnder heading new taken verdict → ⊥
 found_under heading old new bytes is past none taken gives = go
   where
-    whole : length taken ≤ most_document_bytes → taken ≡ bytes → ⊥
+    whole : length taken ≤ max_check_bytes → taken ≡ bytes → ⊥
     whole few same = omega (arith, few, past, ap length same)
 
     go : (verdict : Result Claim Refusal) → HasVerdictUnder heading new taken verdict → ⊥
@@ -135,15 +135,15 @@ found_under heading old new bytes is past none taken gives = go
         by_enough (inr all) = whole reached.1 (taken_all old new taken bytes is gives all.0)
         by_enough (inl ends) =
             let rest = told_rest old new taken bytes is gives in
-            let few : length taken ≤ most_document_bytes = reached.1 in
-            let more : ℕ = most_document_bytes - length taken in
-            let split : most_document_bytes ≡ length taken + more = omega (arith, few) in
+            let few : length taken ≤ max_check_bytes = reached.1 in
+            let more : ℕ = max_check_bytes - length taken in
+            let split : max_check_bytes ≡ length taken + more = omega (arith, few) in
             none taken (take more rest.0) refusal
-            (ap (take most_document_bytes) rest.1 ∙ ap (λ n. take n (taken ++ rest.0)) split
+            (ap (take max_check_bytes) rest.1 ∙ ap (λ n. take n (taken ++ rest.0)) split
             ∙ take-append-add taken rest.0 more) ends reached.0
 
-pub found_within : (old new : Option (List ℕ)) (bytes : List ℕ) → old ≡ Some bytes → most_document_bytes < length bytes
-    → NoneRefused (take most_document_bytes bytes) → (verdict : Result Claim Refusal)
+pub found_within : (old new : Option (List ℕ)) (bytes : List ℕ) → old ≡ Some bytes → max_check_bytes < length bytes
+    → NoneRefused (take max_check_bytes bytes) → (verdict : Result Claim Refusal)
     → IsVerdictFound old new verdict → ⊥
 found_within old new bytes is past none verdict found =
     found_under Answer old new bytes is past none found.taken found.gives verdict found.reached
@@ -155,7 +155,7 @@ judged_claimed old new sunk_old sunk_new status zero judged =
     go judged.verdict judged.found (sym judged.status_is ∙ zero) judged.line
   where
     go : (verdict : Result Claim Refusal) → IsVerdictFound old new verdict → verdict_status verdict ≡ 0
-        → Gains sunk_old sunk_new (verdict_line verdict)
+        → Appended sunk_old sunk_new (verdict_line verdict)
         → IsVerifiedClaim old new sunk_old sunk_new
     go (Ok claim) found ok line =
         let document : IsDocument found.taken claim =

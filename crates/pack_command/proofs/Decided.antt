@@ -16,13 +16,13 @@ use Rattle.answer_terms.specs.declared.job.DocumentJob.TheVariants.{Solving as S
 use Rattle.document_terms.specs.declared.claim.SolvingJob.TheVariants.{Fit}
 use Rattle.answer_terms.specs.Answers.{answer_text, status_of}
 use Rattle.answer_terms.specs.Solved.{solved, fit_answer}
-use Rattle.pack_streams.specs.Moves.{Gains}
+use Rattle.pack_streams.specs.Moves.{Appended}
 use Rattle.text_terms.specs.declared.settings.Settings.{Settings}
 use Rattle.pack_command.specs.Answered.{answer_for, branchings, IsDecided}
 
 -- the answer of `fit` is yes with a packing, no with a refutation, or undecided
 pub fit_decided : (settings : Settings) (instance : PlainInstance) → IsInstance instance → (old new : Option (List ℕ))
-    → Gains old new (answer_for (Solves Fit) settings instance).text
+    → Appended old new (answer_for (Solves Fit) settings instance).text
     → IsDecided instance settings old new (answer_for (Solves Fit) settings instance).status
 unfolding solved
 fit_decided settings instance limits old new gains =
@@ -34,7 +34,7 @@ fit_decided settings instance limits old new gains =
 
     go : (b : Bool) (v : Verdict) → b ≡ ltb settings.budget (count_of v)
         → v ≡ outcome (class_tree instance [] settings.scales) → IsRightUnder instance [] v
-        → Gains old new (answer_text instance (fit_answer (if b then Past else Decided v)))
+        → Appended old new (answer_text instance (fit_answer (if b then Past else Decided v)))
         → IsDecided instance settings old new (status_of (fit_answer (if b then Past else Decided v)))
     go true v e f r g =
         let l : settings.budget < count_of v = ltb-true settings.budget (count_of v) (sym e) in

@@ -5,7 +5,7 @@ use Rattle.packing_terms.specs.declared.Exclusion.{Exclusion}
 use Rattle.symmetry_terms.specs.Facts.{symmetry_facts}
 use Rattle.packing_terms.specs.Packing.{PlainInstance, dims, box_count}
 use Rattle.packing_terms.specs.Goals.{with_last_side}
-use Rattle.tree_terms.specs.Trees.{PlainOutcome, Decided, Past, Yes, No, outcome, told}
+use Rattle.tree_terms.specs.Trees.{PlainOutcome, Decided, Past, Yes, No, outcome, under_budget}
 use Rattle.tree_terms.specs.ClassTree.{class_tree, first_too_large_box, first_too_wide}
 use Rattle.tree_terms.specs.Levels.{PlainReached, bin_run, value_run}
 use Rattle.reduced_levels.specs.Heights.{height_run_from}
@@ -44,7 +44,7 @@ right_placed instance es (Decided (No tokens count)) h = tt
 right_placed instance es Past h = tt
 
 pub fit_solution : (settings : Settings) (instance : PlainInstance) (o : Outcome)
-    → plain_outcome o ≡ told settings.budget (outcome (class_tree instance [] settings.scales))
+    → plain_outcome o ≡ under_budget settings.budget (outcome (class_tree instance [] settings.scales))
     → IsRight instance [] (plain_outcome o) → IsSolution (Solves SolvesFit) settings instance (Fit o)
 unfolding solved
 fit_solution settings instance o e right = record {
@@ -54,7 +54,7 @@ fit_solution settings instance o e right = record {
 }
 
 pub reduced_solution : (settings : Settings) (instance : PlainInstance) (o : Outcome)
-    → plain_outcome o ≡ told settings.budget (outcome (class_tree instance (symmetry_facts instance) settings.scales))
+    → plain_outcome o ≡ under_budget settings.budget (outcome (class_tree instance (symmetry_facts instance) settings.scales))
     → IsRight instance (symmetry_facts instance) (plain_outcome o)
     → IsSolution (Reduces FromFit) settings instance (Reduced o)
 unfolding reduced_solved

@@ -12,8 +12,8 @@ use Rattle.size_front.specs.declared.front.Front.{Front}
 use Rattle.size_front.specs.declared.front.Point.{Point}
 use Rattle.size_front.specs.Plain.{plain_front, plain_point}
 use Rattle.answer_streams.specs.FrontTexts.{AreAllPlaced}
-use Rattle.pack_streams.specs.Moves.{Gains}
-use Rattle.pack_streams.specs.Writing.{GainsPart}
+use Rattle.pack_streams.specs.Moves.{Appended}
+use Rattle.pack_streams.specs.Writing.{AppendedPrefix}
 use Rattle.pack_command.specs.Asked.{AsksFront}
 use Rattle.pack_command.specs.Fronts.{IsFrontAnswered, IsFrontWritten, IsFrontPartlyWritten, IsNotTwoDimensional, AreAllPacked}
 use Rattle.pack_command.specs.Inputs.{IsInputRead, IsPartTaken}
@@ -43,7 +43,7 @@ module _ (words : List (String Global)) (old new sunk_old sunk_new : Option (Lis
   answered = record { asked = asks; bytes = read.0; input = read.1; read = read.2; limits = limits; plane = plane }
 
   pub front_written : (status : ℕ) → status ≡ front_status front.complete (length front.points.items)
-      → Gains sunk_old sunk_new (front_text instance (plain_front front))
+      → Appended sunk_old sunk_new (front_text instance (plain_front front))
       → IsFrontWritten words old new sunk_old sunk_new status
   front_written status is written =
       let count = length-map front.points.items plain_point in
@@ -53,16 +53,16 @@ module _ (words : List (String Global)) (old new sunk_old sunk_new : Option (Lis
         answered = answered;
         status_is = is ∙ (ap (λ n. front_status front.complete n) (sym count)
             ∙ ap (λ (f : PlainFront). front_status f.complete (length f.points)) walk);
-        written = subst (λ (f : PlainFront). Gains sunk_old sunk_new (front_text instance f)) walk written;
+        written = subst (λ (f : PlainFront). Appended sunk_old sunk_new (front_text instance f)) walk written;
       }
 
-  pub front_cut : GainsPart sunk_old sunk_new (front_text instance (plain_front front))
+  pub front_cut : AppendedPrefix sunk_old sunk_new (front_text instance (plain_front front))
       → IsFrontPartlyWritten words old new sunk_old sunk_new
   front_cut part = record {
     settings = settings;
     instance = instance;
     answered = answered;
-    part = subst (λ (f : PlainFront). GainsPart sunk_old sunk_new (front_text instance f)) walk part;
+    part = subst (λ (f : PlainFront). AppendedPrefix sunk_old sunk_new (front_text instance f)) walk part;
   }
 
 module _ (old new : Option (List ℕ)) (instance : PlainInstance) (read : IsInputRead old new (Ok instance)) where

@@ -11,7 +11,7 @@ use Rattle.answer_terms.specs.declared.job.DocumentJob.{DocumentJob}
 use Rattle.answer_terms.specs.declared.job.DocumentJob.TheVariants.{Solving as Solves}
 use Rattle.document_terms.specs.declared.claim.SolvingJob.TheVariants.{Fit}
 use Rattle.answer_terms.specs.Solved.{JobAnswer, solved}
-use Rattle.pack_streams.specs.Moves.{Gains}
+use Rattle.pack_streams.specs.Moves.{Appended}
 use Rattle.pack_words.specs.declared.job.Job.TheVariants.{Check, Make}
 use Rattle.pack_words.specs.declared.job.JobWords.{JobWords}
 use Rattle.pack_words.proofs.Walking.{some_inj}
@@ -188,7 +188,7 @@ module _ (words : List (String Global)) (old new sunk_old sunk_new : Option (Lis
       let told = made_told number settings status is in
       record {
         status_is = is;
-        written = subst (λ (a : JobAnswer). Gains sunk_old sunk_new a.text) same m.written;
+        written = subst (λ (a : JobAnswer). Appended sunk_old sunk_new a.text) same m.written;
         yes = told.yes;
         no = told.no;
         undecided = told.undecided;

@@ -16,7 +16,7 @@ use Rattle.answer_terms.proofs.HeightTrue.{bounded_strips_true, bounded_heights_
 use Rattle.answer_terms.proofs.HeightOwn.{own_bounded_strips_verified}
 use Rattle.answer_streams.specs.Audited.{verdict_of_kind, BoundedVerdictOf}
 use Rattle.bounded_heights.specs.Heights.{IsOpenOnlyPast}
-use Rattle.pack_streams.specs.Moves.{Gains}
+use Rattle.pack_streams.specs.Moves.{Appended}
 use Rattle.pack_command.specs.Asked.{HeightBounds, IsProposalRun}
 use Rattle.pack_command.specs.Bounded.{IsOwnBounded}
 use Rattle.pack_command.specs.BoundedHeights.{IsBoundedStripFound, AreHeightsDecided, AreHeightsAmple}
@@ -33,7 +33,7 @@ module _ (proposals : Bool) (settings : Settings) (instance : PlainInstance) (li
   module _ (heights : BoundedHeights) (are : AreBoundedHeights instance heights)
       (past : IsOpenOnlyPast proposals instance settings (Heights heights))
       (status_is : status ≡ strip_status (Heights heights))
-      (written : Gains old new (bounded_strip_text instance (Heights heights))) where
+      (written : Appended old new (bounded_strip_text instance (Heights heights))) where
     least_by : suc heights.refuted ≡ heights.placed → Decided
     least_by same =
         let below : heights.refuted ≡ pred heights.placed = ap pred same in
@@ -46,7 +46,7 @@ module _ (proposals : Bool) (settings : Settings) (instance : PlainInstance) (li
           tokens = heights.tokens;
           refutation = subst (λ (h : ℕ). RefutesFamilies (with_last_side instance h) (Free []) heights.tokens) below
               are.refutation;
-          written = subst (λ (h : ℕ). Gains old new (bounded_strip_text instance (Heights
+          written = subst (λ (h : ℕ). Appended old new (bounded_strip_text instance (Heights
               (record { refuted = h; tokens = heights.tokens; placed = heights.placed; places = heights.places }))))
               below written;
         })
@@ -75,7 +75,7 @@ module _ (proposals : Bool) (settings : Settings) (instance : PlainInstance) (li
         go (inr closed) = let rising = are.rising in least_by (omega (arith, closed, rising))
 
   none_by : (v i : ℕ) → IsFirstTooWide instance v i → status ≡ strip_status (NoneFits v i)
-      → Gains old new (bounded_strip_text instance (NoneFits v i)) → Decided
+      → Appended old new (bounded_strip_text instance (NoneFits v i)) → Decided
   none_by v i wide status_is written = inr (inr (record {
     status_is = status_is;
     none = bounded_strips_true.1 instance v i limits wide;
@@ -86,17 +86,17 @@ module _ (proposals : Bool) (settings : Settings) (instance : PlainInstance) (li
   }))
 
   strip_by : (strip : BoundedStrip) → IsBoundedStrip instance strip → IsOpenOnlyPast proposals instance settings strip
-      → status ≡ strip_status strip → Gains old new (bounded_strip_text instance strip) → Decided
+      → status ≡ strip_status strip → Appended old new (bounded_strip_text instance strip) → Decided
   strip_by (Heights heights) is past status_is written = heights_by heights is past status_is written
   strip_by (NoneFits v i) is past status_is written = none_by v i is status_is written
 
   module _ (document : List ℕ) (found : IsBoundedStripFound proposals settings instance status document)
-      (gains : Gains old new document) where
+      (gains : Appended old new document) where
     abbrev answer : BoundedStrip
     answer = found.strip
 
-    written : Gains old new (bounded_strip_text instance answer)
-    written = subst (λ (text : List ℕ). Gains old new text) found.document_is gains
+    written : Appended old new (bounded_strip_text instance answer)
+    written = subst (λ (text : List ℕ). Appended old new text) found.document_is gains
 
     decided_by : Decided
     decided_by = strip_by answer found.is found.past found.status_is written

@@ -22,7 +22,7 @@ use Rattle.answer_terms.proofs.OwnReduced.{own_reduced}
 use Rattle.answer_terms.specs.Reduced.{reduced_solved, reduced_text}
 use Rattle.pack_command.specs.Decides.{AsksWhetherFits}
 use Rattle.text_terms.specs.declared.settings.Settings.{Settings}
-use Rattle.pack_streams.specs.Moves.{Gains}
+use Rattle.pack_streams.specs.Moves.{Appended}
 use Rattle.pack_command.specs.Answered.{answer_for}
 use Rattle.pack_command.specs.Asked.{AsksToSolve}
 use Rattle.pack_command.specs.Run.{IsWritten}
@@ -80,7 +80,7 @@ reduced_answer job settings instance limits (Claimed claim numbers tokens) e =
 -- the document of the definition
 pub own_text : (job : DocumentJob) (settings : Settings) (instance : PlainInstance) → IsInstance instance
     → (sunk_old sunk_new : Option (List ℕ))
-    → Gains sunk_old sunk_new (answer_for job settings instance).text
+    → Appended sunk_old sunk_new (answer_for job settings instance).text
     → IsOutputVerified job instance sunk_old sunk_new (answer_for job settings instance).status
 own_text (Solves job) settings instance limits sunk_old sunk_new gains = record {
   document = (answer_for (Solves job) settings instance).text;

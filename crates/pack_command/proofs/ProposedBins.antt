@@ -18,8 +18,8 @@ use Rattle.answer_streams.specs.Solutions.{bins_found, ArePlacedBins}
 use Rattle.bin_knapsack.specs.declared.bins.Bins.{Bins as FoundBins}
 use Rattle.bin_knapsack.specs.declared.bins.Bins.TheVariants.{Least, Between, NoneFits}
 use Rattle.bin_knapsack.specs.BinAnswers.{AreTrueBins}
-use Rattle.proposed_answers.specs.Counts.{bins_count, AreNamedBins, AreLimitedBins, IsPastBeside}
-use Rattle.pack_streams.specs.Moves.{Gains}
+use Rattle.proposed_answers.specs.Counts.{bins_count, AreNamedBins, AreLimitedBins, AreNeighboursPastBudget}
+use Rattle.pack_streams.specs.Moves.{Appended}
 use Rattle.pack_command.specs.Proposed.{AreProposedBins, IsProposedSolution, AreProposedBinsDecided}
 use Rattle.pack_command.proofs.ProposedOwn.{IsOwnAnswer}
 
@@ -32,7 +32,7 @@ placed_by instance (NoneFits v i) t named = (named.there, named.in_range)
 
 pub bins_proposed : (settings : Settings) (instance : PlainInstance) (bins : FoundBins) → AreTrueBins instance bins
     → AreNamedBins instance bins
-    → AreLimitedBins instance bins → IsPastBeside instance settings.budget settings.scales bins
+    → AreLimitedBins instance bins → AreNeighboursPastBudget instance settings.budget settings.scales bins
     → IsProposedSolution SolvesBins settings instance (Bins bins)
 bins_proposed settings instance bins right named limited past = record {
   is = record { bins = bins; right = right; named = named; limited = limited; past = past; answer_is = refl };
@@ -96,8 +96,8 @@ above_by instance refuted k none fits = go (cases_lt refuted k)
 
 decided_by : (settings : Settings) (instance : PlainInstance) (old new : Option (List ℕ)) (bins : FoundBins)
     → AreTrueBins instance bins → AreNamedBins instance bins
-    → IsPastBeside instance settings.budget settings.scales bins
-    → Gains old new (answer_text instance (bins_found bins))
+    → AreNeighboursPastBudget instance settings.budget settings.scales bins
+    → Appended old new (answer_text instance (bins_found bins))
     → AreProposedBinsDecided instance settings old new (status_of (bins_found bins))
 decided_by settings instance old new (Least bins numbers tokens) t named past written = inl (record {
   status_is = refl;
@@ -141,12 +141,12 @@ module _ (settings : Settings) (instance : PlainInstance) (answer : Answer)
   bins_own = subst (λ (a : Answer). IsOwnAnswer SolvesBins instance a) (sym is.answer_is)
       (own_by instance is.bins is.right is.named is.limited)
 
-  pub bins_proposed_decided : (old new : Option (List ℕ)) → Gains old new (answer_text instance answer)
+  pub bins_proposed_decided : (old new : Option (List ℕ)) → Appended old new (answer_text instance answer)
       → AreProposedBinsDecided instance settings old new (status_of answer)
   bins_proposed_decided old new written =
       subst (λ (a : Answer). AreProposedBinsDecided instance settings old new (status_of a)) (sym is.answer_is)
       (decided_by settings instance old new is.bins is.right is.named is.past
-      (subst (λ (a : Answer). Gains old new (answer_text instance a)) is.answer_is written))
+      (subst (λ (a : Answer). Appended old new (answer_text instance a)) is.answer_is written))
 
 -- it isn't two numbers where the tree of no number is past the budget
 pub bins_within : (settings : Settings) (instance : PlainInstance) (old new : Option (List ℕ)) (status : ℕ)

@@ -16,16 +16,16 @@ use Rattle.bin_knapsack.specs.declared.choice.Choice.{Choice as FoundChoice}
 use Rattle.bin_knapsack.specs.declared.choice.Choice.TheVariants.{Greatest, Between}
 use Rattle.bin_knapsack.specs.Choices.{IsTrueChoice}
 use Rattle.proposed_answers.specs.Shares.{level_share}
-use Rattle.proposed_answers.specs.Values.{value_count, IsLimitedChoice, IsPastBeside}
+use Rattle.proposed_answers.specs.Values.{value_count, IsLimitedChoice, AreNeighboursPastBudget}
 use Rattle.proposed_answers.proofs.Tops.{top_small}
-use Rattle.pack_streams.specs.Moves.{Gains}
+use Rattle.pack_streams.specs.Moves.{Appended}
 use Rattle.pack_command.specs.Proposed.{IsProposedChoice, IsProposedSolution, IsProposedValueDecided}
 use Rattle.pack_command.proofs.ProposedOwn.{IsOwnAnswer}
 
 -- what was found is a solution
 pub choice_proposed : (settings : Settings) (instance : PlainInstance) (choice : FoundChoice)
     → IsTrueChoice instance choice
-    → IsLimitedChoice instance choice → IsPastBeside instance settings.budget settings.scales choice
+    → IsLimitedChoice instance choice → AreNeighboursPastBudget instance settings.budget settings.scales choice
     → IsProposedSolution SolvesKnapsack settings instance (Knapsack choice)
 choice_proposed settings instance choice right limited past = record {
   is = record { choice = choice; right = right; limited = limited; past = past; answer_is = refl };
@@ -68,8 +68,8 @@ reached_by instance value numbers shown = (shown.taken, shown.set, shown.reached
 
 decided_by : (settings : Settings) (instance : PlainInstance) (old new : Option (List ℕ)) (choice : FoundChoice)
     → IsTrueChoice instance choice
-    → IsPastBeside instance settings.budget settings.scales choice
-    → Gains old new (answer_text instance (choice_found choice))
+    → AreNeighboursPastBudget instance settings.budget settings.scales choice
+    → Appended old new (answer_text instance (choice_found choice))
     → IsProposedValueDecided instance settings old new (status_of (choice_found choice))
 decided_by settings instance old new (Greatest value numbers tokens) t past written = inl (record {
   status_is = refl;
@@ -106,12 +106,12 @@ module _ (settings : Settings) (instance : PlainInstance) (answer : Answer)
       subst (λ (a : Answer). IsOwnAnswer SolvesKnapsack instance a) (sym is.answer_is)
       (own_by instance (written_internal instance limits) is.choice is.right is.limited)
 
-  pub choice_proposed_decided : (old new : Option (List ℕ)) → Gains old new (answer_text instance answer)
+  pub choice_proposed_decided : (old new : Option (List ℕ)) → Appended old new (answer_text instance answer)
       → IsProposedValueDecided instance settings old new (status_of answer)
   choice_proposed_decided old new written =
       subst (λ (a : Answer). IsProposedValueDecided instance settings old new (status_of a)) (sym is.answer_is)
       (decided_by settings instance old new is.choice is.right is.past
-      (subst (λ (a : Answer). Gains old new (answer_text instance a)) is.answer_is written))
+      (subst (λ (a : Answer). Appended old new (answer_text instance a)) is.answer_is written))
 
 -- it isn't two values where the tree of no value is past the budget
 pub choice_within : (settings : Settings) (instance : PlainInstance) (old new : Option (List ℕ)) (status : ℕ)

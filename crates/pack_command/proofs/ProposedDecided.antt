@@ -9,7 +9,7 @@ use Rattle.document_terms.specs.declared.claim.SolvingJob.TheVariants.{Fit as So
 use Rattle.document_terms.specs.declared.claim.SolvingJob.TheVariants.{Bins as SolvesBins, Knapsack as SolvesKnapsack}
 use Rattle.answer_terms.specs.declared.job.DocumentJob.TheVariants.{Solving as Solves}
 use Rattle.answer_terms.specs.Answers.{Answer, answer_text, status_of}
-use Rattle.pack_streams.specs.Moves.{Gains}
+use Rattle.pack_streams.specs.Moves.{Appended}
 use Rattle.pack_command.specs.Answered.{class_bound}
 use Rattle.pack_command.specs.Asked.{ProposedJob, Plain, IsProposalRun}
 use Rattle.pack_command.specs.Decides.{StatusDecidesFit}
@@ -28,7 +28,7 @@ use Rattle.pack_command.proofs.Written.{taken_all}
 
 module _ (settings : Settings) (instance : PlainInstance) (limits : IsInstance instance) (answer : Answer)
     (old new : Option (List ℕ))
-    (written : Gains old new (answer_text instance answer)) where
+    (written : Appended old new (answer_text instance answer)) where
   pub job_decided : (job : SolvingJob) → IsProposed job settings instance answer
       → IsProposedDecided job instance settings old new (status_of answer)
   job_decided SolvesFit is = fit_proposed_decided settings instance limits answer is old new written
@@ -82,8 +82,8 @@ module _ (words : List (String Global)) (old new sunk_old sunk_new : Option (Lis
   found : IsProposedFound job settings instance status w.document
   found = told_found words old new sunk_old sunk_new status (Plain job) settings instance s w
 
-  written : Gains sunk_old sunk_new (answer_text instance found.answer)
-  written = subst (λ (document : List ℕ). Gains sunk_old sunk_new document) found.document_is w.written
+  written : Appended sunk_old sunk_new (answer_text instance found.answer)
+  written = subst (λ (document : List ℕ). Appended sunk_old sunk_new document) found.document_is w.written
 
   pub proposed_decided : IsProposedDecided job instance settings sunk_old sunk_new status
   proposed_decided =

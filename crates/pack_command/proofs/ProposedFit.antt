@@ -17,7 +17,7 @@ use Rattle.proof_tree.specs.declared.outcome.Outcome.{Outcome}
 use Rattle.work_share.specs.Outcomes.{plain_outcome}
 use Rattle.proposed_answers.specs.Behind.{IsWithoutScales}
 use Rattle.answer_streams.specs.declared.solution.Solution.TheVariants.{Fit}
-use Rattle.pack_streams.specs.Moves.{Gains}
+use Rattle.pack_streams.specs.Moves.{Appended}
 use Rattle.pack_command.specs.Answered.{branchings, class_bound}
 use Rattle.pack_command.specs.Decides.{StatusDecidesFit}
 use Rattle.pack_command.specs.Proposed.{IsProposedFit, IsProposedSolution, IsProposedFitDecided}
@@ -40,7 +40,7 @@ fit_proposed settings instance o right past plain = record {
 decided_by : (settings : Settings) (instance : PlainInstance) → IsInternalInstance instance
     → (old new : Option (List ℕ)) (o : PlainOutcome)
     → IsRight instance [] o → (o ≡ Past → settings.budget < branchings settings instance)
-    → (settings.scales ≡ false → IsWithoutScales o) → Gains old new (answer_text instance (fit_answer o))
+    → (settings.scales ≡ false → IsWithoutScales o) → Appended old new (answer_text instance (fit_answer o))
     → IsProposedFitDecided instance settings old new (status_of (fit_answer o))
 decided_by settings instance limits old new (Decided (Yes places count)) right past plain written =
     inl (record { status_is = refl; places = places; packing = right; written = written })
@@ -68,9 +68,9 @@ module _ (settings : Settings) (instance : PlainInstance) (limits : IsInstance i
   fit_own = subst (λ (a : Answer). IsOwnAnswer SolvesFit instance a) (sym is.answer_is)
       (own_by instance is.outcome is.right)
 
-  module _ (old new : Option (List ℕ)) (written : Gains old new (answer_text instance answer)) where
-    of_outcome : Gains old new (answer_text instance (fit_answer is.outcome))
-    of_outcome = subst (λ (a : Answer). Gains old new (answer_text instance a)) is.answer_is written
+  module _ (old new : Option (List ℕ)) (written : Appended old new (answer_text instance answer)) where
+    of_outcome : Appended old new (answer_text instance (fit_answer is.outcome))
+    of_outcome = subst (λ (a : Answer). Appended old new (answer_text instance a)) is.answer_is written
 
     pub fit_proposed_decided : IsProposedFitDecided instance settings old new (status_of answer)
     fit_proposed_decided =

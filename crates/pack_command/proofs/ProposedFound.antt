@@ -4,7 +4,7 @@ use Rattle.std.specs.declared.option.Option.{Option}
 use Rattle.packing_terms.specs.Packing.{PlainInstance}
 use Rattle.packing_terms.specs.Limits.{IsInstance}
 use Rattle.text_terms.specs.declared.settings.Settings.{Settings}
-use Rattle.pack_streams.specs.Writing.{GainsPart}
+use Rattle.pack_streams.specs.Writing.{AppendedPrefix}
 use Rattle.pack_command.specs.Asked.{ProposedJob, AsksProposed}
 use Rattle.pack_command.specs.Inputs.{IsInputRead}
 use Rattle.pack_command.specs.Proposed.{IsFound, IsProposedPartlyWritten}
@@ -12,7 +12,7 @@ use Rattle.pack_command.specs.Proposed.{IsFound, IsProposedPartlyWritten}
 pub proposed_cut : (words : List (String Global)) (old new sunk_old sunk_new : Option (List ℕ)) (job : ProposedJob)
     (settings : Settings) (instance : PlainInstance) (status : ℕ) (document : List ℕ)
     → AsksProposed words job settings → IsInputRead old new (Ok instance) → IsInstance instance
-    → IsFound job settings instance status document → GainsPart sunk_old sunk_new document
+    → IsFound job settings instance status document → AppendedPrefix sunk_old sunk_new document
     → IsProposedPartlyWritten words old new sunk_old sunk_new
 proposed_cut words old new sunk_old sunk_new job settings instance status document asks read limits is part = record {
   job = job;
@@ -25,6 +25,6 @@ proposed_cut words old new sunk_old sunk_new job settings instance status docume
 }
 
 -- the same of a document that has the same text
-pub same_part : (old new : Option (List ℕ)) (one other : List ℕ) → one ≡ other → GainsPart old new one
-    → GainsPart old new other
-same_part old new one other e part = subst (λ (text : List ℕ). GainsPart old new text) e part
+pub same_part : (old new : Option (List ℕ)) (one other : List ℕ) → one ≡ other → AppendedPrefix old new one
+    → AppendedPrefix old new other
+same_part old new one other e part = subst (λ (text : List ℕ). AppendedPrefix old new text) e part

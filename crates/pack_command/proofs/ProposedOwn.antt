@@ -13,7 +13,7 @@ use Rattle.answer_terms.proofs.OwnAccepted.{shown_documents}
 use Rattle.answer_terms.proofs.Undecided.{undecided_refused}
 use Rattle.verdict_terms.specs.declared.heading.Heading.TheVariants.{Answer as AnswerHeading}
 use Rattle.verdict_terms.proofs.FormGiven.{documents_have_form}
-use Rattle.pack_streams.specs.Moves.{Gains}
+use Rattle.pack_streams.specs.Moves.{Appended}
 use Rattle.pack_command.specs.Decides.{AsksWhetherFits}
 use Rattle.pack_command.specs.Own.{IsVerified, IsUndecidedOutput, IsOutputVerified}
 
@@ -44,7 +44,7 @@ own_by job instance limits (Claimed claim numbers tokens) own =
 -- the document is verified with the claim, or says undecided and is verified with none
 pub own_proposed : (job : SolvingJob) (instance : PlainInstance) → IsInstance instance → (answer : Answer)
     → IsOwnAnswer job instance answer
-    → (old new : Option (List ℕ)) → Gains old new (answer_text instance answer)
+    → (old new : Option (List ℕ)) → Appended old new (answer_text instance answer)
     → IsOutputVerified (Solves job) instance old new (status_of answer)
 own_proposed job instance limits answer own old new written =
     record { document = answer_text instance answer; written = written; own = own_by job instance limits answer own }

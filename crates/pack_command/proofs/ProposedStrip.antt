@@ -20,8 +20,8 @@ use Rattle.strip_solver.specs.declared.strip.Strip.{Strip as FoundStrip}
 use Rattle.strip_solver.specs.declared.strip.Strip.TheVariants.{Least, Between, NoneFits}
 use Rattle.strip_solver.specs.Strips.{IsTrueStrip}
 use Rattle.proposed_answers.specs.Shares.{level_share}
-use Rattle.proposed_answers.specs.Heights.{height_count, IsNamedStrip, IsLimitedStrip, IsPastBeside}
-use Rattle.pack_streams.specs.Moves.{Gains}
+use Rattle.proposed_answers.specs.Heights.{height_count, IsNamedStrip, IsLimitedStrip, AreNeighboursPastBudget}
+use Rattle.pack_streams.specs.Moves.{Appended}
 use Rattle.pack_command.specs.Proposed.{IsProposedStrip, IsProposedSolution, IsProposedStripDecided}
 use Rattle.pack_command.proofs.ProposedOwn.{IsOwnAnswer}
 
@@ -40,7 +40,7 @@ placed_by instance (NoneFits v i) t named = let r = named.in_range in (named.the
 
 pub strip_proposed : (settings : Settings) (instance : PlainInstance) (strip : FoundStrip) → IsTrueStrip instance strip
     → IsNamedStrip instance strip
-    → IsLimitedStrip strip → IsPastBeside instance settings.budget settings.scales strip
+    → IsLimitedStrip strip → AreNeighboursPastBudget instance settings.budget settings.scales strip
     → IsProposedSolution SolvesStrip settings instance (Strip strip)
 strip_proposed settings instance strip right named limited past = record {
   is = record { strip = strip; right = right; named = named; limited = limited; past = past; answer_is = refl };
@@ -105,8 +105,8 @@ above_by instance refuted h none fits = go (cases_lt refuted h)
 
 decided_by : (settings : Settings) (instance : PlainInstance) (old new : Option (List ℕ)) (strip : FoundStrip)
     → IsTrueStrip instance strip → IsNamedStrip instance strip
-    → IsPastBeside instance settings.budget settings.scales strip
-    → Gains old new (answer_text instance (strip_found strip))
+    → AreNeighboursPastBudget instance settings.budget settings.scales strip
+    → Appended old new (answer_text instance (strip_found strip))
     → IsProposedStripDecided instance settings old new (status_of (strip_found strip))
 decided_by settings instance old new (Least height places tokens) t named past written = inl (record {
   status_is = refl;
@@ -150,12 +150,12 @@ module _ (settings : Settings) (instance : PlainInstance) (answer : Answer)
   strip_own = subst (λ (a : Answer). IsOwnAnswer SolvesStrip instance a) (sym is.answer_is)
       (own_by instance is.strip is.right is.named is.limited)
 
-  pub strip_proposed_decided : (old new : Option (List ℕ)) → Gains old new (answer_text instance answer)
+  pub strip_proposed_decided : (old new : Option (List ℕ)) → Appended old new (answer_text instance answer)
       → IsProposedStripDecided instance settings old new (status_of answer)
   strip_proposed_decided old new written =
       subst (λ (a : Answer). IsProposedStripDecided instance settings old new (status_of a)) (sym is.answer_is)
       (decided_by settings instance old new is.strip is.right is.named is.past
-      (subst (λ (a : Answer). Gains old new (answer_text instance a)) is.answer_is written))
+      (subst (λ (a : Answer). Appended old new (answer_text instance a)) is.answer_is written))
 
 -- it isn't two heights where the tree of no height is past the budget
 pub strip_within : (settings : Settings) (instance : PlainInstance) (old new : Option (List ℕ)) (status : ℕ)

@@ -19,7 +19,7 @@ use Rattle.answer_terms.specs.declared.job.ReducedJob.TheVariants.{Fit as FromFi
 use Rattle.answer_terms.specs.Answers.{status_of}
 use Rattle.answer_terms.specs.Reduced.{reduced_solved, reduced_text}
 use Rattle.answer_terms.specs.Solved.{fit_answer}
-use Rattle.pack_streams.specs.Moves.{Gains}
+use Rattle.pack_streams.specs.Moves.{Appended}
 use Rattle.text_terms.specs.declared.settings.Settings.{Settings}
 use Rattle.pack_command.specs.Answered.{answer_for}
 use Rattle.pack_command.specs.Reductions.{reduced_branchings, IsReducedDecided}
@@ -27,7 +27,7 @@ use Rattle.pack_command.specs.Reductions.{reduced_branchings, IsReducedDecided}
 -- the answer of `reduced` is yes with a packing, no with a refutation under the facts, or undecided
 pub reduced_decided : (settings : Settings) (instance : PlainInstance) → IsInstance instance
     → (old new : Option (List ℕ))
-    → Gains old new (answer_for (Reduces FromFit) settings instance).text
+    → Appended old new (answer_for (Reduces FromFit) settings instance).text
     → IsReducedDecided instance settings old new (answer_for (Reduces FromFit) settings instance).status
 unfolding reduced_solved
 reduced_decided settings instance limits old new gains =
@@ -42,7 +42,7 @@ reduced_decided settings instance limits old new gains =
     go : (b : Bool) (v : Verdict) → b ≡ ltb settings.budget (count_of v)
         → v ≡ outcome (class_tree instance (symmetry_facts instance) settings.scales)
         → IsRightUnder instance (symmetry_facts instance) v
-        → Gains old new (reduced_text instance (fit_answer (if b then Past else Decided v)))
+        → Appended old new (reduced_text instance (fit_answer (if b then Past else Decided v)))
         → IsReducedDecided instance settings old new (status_of (fit_answer (if b then Past else Decided v)))
     go true v e f r g =
         let l : settings.budget < count_of v = ltb-true settings.budget (count_of v) (sym e) in

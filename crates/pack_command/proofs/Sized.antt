@@ -18,7 +18,7 @@ use Rattle.answer_terms.specs.FrontTexts.{front_status}
 use Rattle.answer_terms.proofs.FrontBacked.{IsBackedCorner, IsBackedPoint, front_backed}
 use Rattle.answer_terms.proofs.FrontOwn.{own_fronts_are_verified, own_fronts_are_fronts}
 use Rattle.answer_streams.specs.Audited.{FrontVerdictOf, verdict_of_kind}
-use Rattle.pack_streams.specs.Moves.{Gains}
+use Rattle.pack_streams.specs.Moves.{Appended}
 use Rattle.pack_command.specs.Answered.{class_bound}
 use Rattle.pack_command.specs.Asked.{IsFrontRun}
 use Rattle.pack_command.specs.Fronts.{front_for, IsFrontWritten, AreAllPacked, AreAllRefuted}
@@ -99,7 +99,7 @@ module _ (instance : PlainInstance) where
     walk_claimed = walks_are_fronts instance settings.budget settings.scales internal plane
 
     module _ (sunk_old sunk_new : Option (List ℕ)) (status : ℕ) (is : status ≡ (front_for settings instance).status)
-        (written : Gains sunk_old sunk_new (front_for settings instance).text) where
+        (written : Appended sunk_old sunk_new (front_for settings instance).text) where
       pub front_decided : IsFrontDecided instance settings sunk_old sunk_new status
       front_decided =
           let three = three_partial (front_walk instance settings.budget settings.scales).complete
@@ -162,10 +162,10 @@ module _ (words : List (String Global)) (old new sunk_old sunk_new : Option (Lis
   told_limits = subst IsInstance same_instance (w.answered).limits
 
   pub told_front : (status ≡ (front_for settings instance).status)
-      × Gains sunk_old sunk_new (front_for settings instance).text
+      × Appended sunk_old sunk_new (front_for settings instance).text
   told_front = (
     w.status_is ∙ ap (λ a. a.status) same_front,
-    subst (λ a. Gains sunk_old sunk_new a.text) same_front w.written,
+    subst (λ a. Appended sunk_old sunk_new a.text) same_front w.written,
   )
 
   pub told_decided : IsFrontDecided instance settings sunk_old sunk_new status

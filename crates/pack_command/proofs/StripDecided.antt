@@ -27,7 +27,7 @@ use Rattle.answer_terms.proofs.Shown.{answers_shown}
 use Rattle.answer_terms.proofs.True.{answers_true}
 use Rattle.answer_terms.proofs.Reduced.{reduced_shown, reduced_true}
 use Rattle.answer_streams.specs.Headed.{headed_text, start_facts}
-use Rattle.pack_streams.specs.Moves.{Gains}
+use Rattle.pack_streams.specs.Moves.{Appended}
 use Rattle.text_terms.specs.declared.settings.Settings.{Settings}
 use Rattle.pack_command.specs.Strips.{IsStripDecided}
 
@@ -85,7 +85,7 @@ module _ (start : TreeStart) (settings : Settings) (instance : PlainInstance) (l
       run.numbers run.tokens) s
 
   reached : (b : Bool) → first_too_wide instance ≡ None → run.spent ≡ b
-      → Gains old new (headed_text start instance
+      → Appended old new (headed_text start instance
       (Claimed (reached_claim b (LeastHeight run.placed) (HeightBetween run.refuted run.placed)) run.numbers
       run.tokens))
       → IsStripDecided start instance settings old new
@@ -128,7 +128,7 @@ module _ (start : TreeStart) (settings : Settings) (instance : PlainInstance) (l
       }))
 
   by_first : (p : Option (ℕ × ℕ)) → first_too_wide instance ≡ p
-      → Gains old new (headed_text start instance (strip_answer p run))
+      → Appended old new (headed_text start instance (strip_answer p run))
       → IsStripDecided start instance settings old new (status_of (strip_answer p run))
   by_first (Some p) e g =
       let none = true_under start settings.budget settings.scales instance NoHeight _ _ limits (by_wide (Some p) e) in
@@ -143,10 +143,10 @@ module _ (start : TreeStart) (settings : Settings) (instance : PlainInstance) (l
   by_first None e g = reached run.spent e refl g
 
   -- the answer of `strip` is the least height, two heights between which it lies, or none
-  pub strip_decided : Gains old new (headed_text start instance found)
+  pub strip_decided : Appended old new (headed_text start instance found)
       → IsStripDecided start instance settings old new (status_of found)
   strip_decided g =
       let e = by_wide (first_too_wide instance) refl in
       subst (λ (a : Answer). IsStripDecided start instance settings old new (status_of a)) (sym e)
       (by_first (first_too_wide instance) refl
-      (subst (λ (a : Answer). Gains old new (headed_text start instance a)) e g))
+      (subst (λ (a : Answer). Appended old new (headed_text start instance a)) e g))

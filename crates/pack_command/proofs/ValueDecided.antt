@@ -13,7 +13,7 @@ use Rattle.answer_terms.specs.Answers.Answer.{Claimed}
 use Rattle.answer_terms.specs.Solved.{solved, reached_claim}
 use Rattle.answer_terms.proofs.Shown.{answers_shown}
 use Rattle.answer_terms.proofs.True.{answers_true}
-use Rattle.pack_streams.specs.Moves.{Gains}
+use Rattle.pack_streams.specs.Moves.{Appended}
 use Rattle.text_terms.specs.declared.settings.Settings.{Settings}
 use Rattle.pack_command.specs.Answered.{answer_for}
 use Rattle.pack_command.specs.GreatestValues.{IsValueDecided}
@@ -34,7 +34,7 @@ module _ (settings : Settings) (instance : PlainInstance) (limits : IsInstance i
       run.numbers run.tokens) s
 
   reached : (b : Bool) → run.spent ≡ b
-      → Gains old new (answer_text instance
+      → Appended old new (answer_text instance
       (Claimed (reached_claim b (GreatestValue run.placed) (ValueBetween run.placed run.refuted)) run.numbers
       run.tokens))
       → IsValueDecided instance settings old new
@@ -76,7 +76,7 @@ module _ (settings : Settings) (instance : PlainInstance) (limits : IsInstance i
       })
 
   -- the answer of `knapsack` is the greatest value, or two values between which it lies
-  pub value_decided : Gains old new (answer_for (Solves Knapsack) settings instance).text
+  pub value_decided : Appended old new (answer_for (Solves Knapsack) settings instance).text
       → IsValueDecided instance settings old new (answer_for (Solves Knapsack) settings instance).status
   unfolding solved
   value_decided g = reached run.spent refl g

@@ -18,7 +18,7 @@ use Rattle.answer_streams.specs.declared.tree_start.TreeStart.TheVariants.{Nothi
 use Rattle.answer_streams.specs.Headed.{start_facts}
 use Rattle.document_terms.specs.declared.claim.SolvingJob.TheVariants.{Fit, Strip, Bins, Knapsack}
 use Rattle.answer_terms.specs.Solved.{JobAnswer}
-use Rattle.pack_streams.specs.Moves.{Gives, Gains}
+use Rattle.pack_streams.specs.Moves.{Consumed, Appended}
 use Rattle.pack_words.specs.declared.job.JobWords.{JobWords}
 use Rattle.pack_words.proofs.Walking.{some_inj}
 use Rattle.text_terms.specs.declared.settings.Settings.{Settings}
@@ -41,7 +41,7 @@ ok_same : {A B : Type 0} (x y : A) (r : Result A B) → r ≡ Ok x → r ≡ Ok 
 ok_same x y r e f = cc
 
 -- what was taken up to the end is all that the source told
-pub taken_all : (old new : Option (List ℕ)) (bytes told : List ℕ) → old ≡ Some told → Gives old new bytes → IsAtEnd new
+pub taken_all : (old new : Option (List ℕ)) (bytes told : List ℕ) → old ≡ Some told → Consumed old new bytes → IsAtEnd new
     → bytes ≡ told
 taken_all old None bytes told is gives end = absurd (cc (is, gives))
 taken_all old (Some rest) bytes told is gives end =
@@ -50,7 +50,7 @@ taken_all old (Some rest) bytes told is gives end =
     sym none ∙ whole
 
 -- no more can be taken than the source told
-pub taken_within : (old new : Option (List ℕ)) (bytes told : List ℕ) → old ≡ Some told → Gives old new bytes
+pub taken_within : (old new : Option (List ℕ)) (bytes told : List ℕ) → old ≡ Some told → Consumed old new bytes
     → length bytes ≤ length told
 taken_within old None bytes told is gives = absurd (cc (is, gives))
 taken_within old (Some rest) bytes told is gives =
@@ -94,12 +94,12 @@ module _ (words : List (String Global)) (old new sunk_old sunk_new : Option (Lis
   -- the answer that was written is that of the instance that the source told
   pub written_answers : (job : DocumentJob) → AsksToSolve words job settings
       → (status ≡ (answer_for job settings instance).status)
-      × Gains sunk_old sunk_new (answer_for job settings instance).text
+      × Appended sunk_old sunk_new (answer_for job settings instance).text
   written_answers job asks =
       let a = w.answered in
       let e = same_answer job asks in
       let d : w.document ≡ (answer_for job settings instance).text = a.document_is ∙ ap (λ (x : JobAnswer). x.text) e in
-      (a.status_is ∙ ap (λ (x : JobAnswer). x.status) e, subst (λ t. Gains sunk_old sunk_new t) d w.written)
+      (a.status_is ∙ ap (λ (x : JobAnswer). x.status) e, subst (λ t. Appended sunk_old sunk_new t) d w.written)
 
   pub written_limits : IsInstance instance
   written_limits = subst IsInstance same_instance (w.answered).limits

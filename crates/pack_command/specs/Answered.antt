@@ -16,7 +16,7 @@ use Rattle.answer_terms.specs.Answers.{answer_text}
 use Rattle.answer_terms.specs.Answers.Answer.{Undecided, Claimed}
 use Rattle.answer_terms.specs.Solved.{JobAnswer}
 use Rattle.answer_terms.specs.Reduced.{document_answer}
-use Rattle.pack_streams.specs.Moves.{Gains}
+use Rattle.pack_streams.specs.Moves.{Appended}
 use Rattle.text_terms.specs.declared.settings.Settings.{Settings}
 
 -- the answer that the job has for the instance, its status and its document; the number of workers
@@ -39,7 +39,7 @@ pub record IsYes (instance : PlainInstance) (settings : Settings) (sunk_old sunk
   pub places : List ℕ
   pub packing : IsPacking instance places
   pub within : branchings settings instance ≤ settings.budget
-  pub written : Gains sunk_old sunk_new (answer_text instance (Claimed Fitting places []))
+  pub written : Appended sunk_old sunk_new (answer_text instance (Claimed Fitting places []))
 
 -- no, with the tokens of a refutation, where the instance doesn't fit, and a count of branchings
 -- within the budget
@@ -50,14 +50,14 @@ pub record IsNo (instance : PlainInstance) (settings : Settings) (sunk_old sunk_
   pub tokens : List PlainToken
   pub refutation : Refutes instance [] tokens
   pub within : branchings settings instance ≤ settings.budget
-  pub written : Gains sunk_old sunk_new (answer_text instance (Claimed NotFitting [] tokens))
+  pub written : Appended sunk_old sunk_new (answer_text instance (Claimed NotFitting [] tokens))
 
 -- undecided, where the count of branchings is greater than the budget
 pub record IsUndecided (instance : PlainInstance) (settings : Settings) (sunk_old sunk_new : Option (List ℕ))
     (status : ℕ) : Type 0 where
   pub status_is : status ≡ 3
   pub past : settings.budget < branchings settings instance
-  pub written : Gains sunk_old sunk_new (answer_text instance Undecided)
+  pub written : Appended sunk_old sunk_new (answer_text instance Undecided)
 
 -- one of the three
 abbrev pub IsDecided : PlainInstance → Settings → (sunk_old sunk_new : Option (List ℕ)) → ℕ → Type 0

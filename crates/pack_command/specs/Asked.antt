@@ -18,7 +18,7 @@ use Rattle.pack_words.specs.declared.job.Job.TheVariants.{Reduced, Front, Reduce
 use Rattle.pack_words.specs.declared.job.JobWords.{JobWords}
 use Rattle.text_terms.specs.declared.settings.Settings.{Settings}
 use Rattle.verdict_terms.specs.Fed.{NoneRefused}
-use Rattle.document_check.specs.Checked.{most_document_bytes}
+use Rattle.document_check.specs.Checked.{max_check_bytes}
 use Rattle.text_terms.specs.declared.fault.TextFault.{TextFault}
 use Rattle.pack_command.specs.Inputs.{max_instance_bytes}
 use Rattle.pack_command.specs.Readings.{DocumentTask, Audits, Explains, AreFew, ArePast}
@@ -152,7 +152,7 @@ pub record IsSolving (words : List (String Global)) (left : Option (List ℕ)) (
 pub record IsChecking (words : List (String Global)) (left : Option (List ℕ)) (bytes : List ℕ) : Type 0 where
   pub asks : AsksCheck words
   pub told : left ≡ Some bytes
-  pub within : length bytes ≤ most_document_bytes
+  pub within : length bytes ≤ max_check_bytes
 
 -- the words ask for this job, and the input is these bytes
 pub record IsReading (words : List (String Global)) (left : Option (List ℕ)) (task : DocumentTask) (bytes : List ℕ) :
@@ -218,8 +218,8 @@ pub record IsLongDocument (words : List (String Global)) (left : Option (List �
   pub asks : AsksCheck words
   pub bytes : List ℕ
   pub told : left ≡ Some bytes
-  pub past : most_document_bytes < length bytes
-  pub none : NoneRefused (take most_document_bytes bytes)
+  pub past : max_check_bytes < length bytes
+  pub none : NoneRefused (take max_check_bytes bytes)
 
 -- more bytes come for `audit` or `explain` than it reads
 pub record IsLongReading (words : List (String Global)) (left : Option (List ℕ)) : Type 0 where

@@ -15,7 +15,7 @@ use Rattle.bounded_choice.specs.Levels.{IsOpenWithout}
 use Rattle.proposed_answers.specs.Shares.{level_share}
 use Rattle.proposed_answers.specs.Values.{value_count}
 use Rattle.answer_streams.specs.Audited.{audit_verdict, BoundedVerdictOf}
-use Rattle.pack_streams.specs.Moves.{Gains}
+use Rattle.pack_streams.specs.Moves.{Appended}
 
 -- The status and the document are those of an answer: a placed and a refuted value with both
 -- certificates, which have others between only where the run without priced leaves ends open.
@@ -39,7 +39,7 @@ pub record IsBoundedGreatest (instance : PlainInstance) (sunk_old sunk_new : Opt
   pub packing : AreTakenNumbers instance value numbers
   pub tokens : List BoundedToken
   pub refutation : IsBoundedRefutation instance (suc value) tokens
-  pub written : Gains sunk_old sunk_new (bounded_text instance
+  pub written : Appended sunk_old sunk_new (bounded_text instance
       (record { placed = value; numbers = numbers; refuted = suc value; tokens = tokens }))
 
 -- Two values between which the greatest one lies: a placed one and a refuted one, with both
@@ -56,7 +56,7 @@ pub record AreBoundedValues (proposals : Bool) (instance : PlainInstance) (setti
   pub tokens : List BoundedToken
   pub refutation : IsBoundedRefutation instance refuted tokens
   pub past : IsOpenWithout proposals instance settings placed refuted
-  pub written : Gains sunk_old sunk_new (bounded_text instance
+  pub written : Appended sunk_old sunk_new (bounded_text instance
       (record { placed = placed; numbers = numbers; refuted = refuted; tokens = tokens }))
 
 -- one of the two
@@ -75,7 +75,7 @@ IsBoundsAmple true settings instance = (t : ℕ) → value_count instance settin
 -- about this instance, and the claim has this status
 pub record IsOwnBounded (instance : PlainInstance) (sunk_old sunk_new : Option (List ℕ)) (status : ℕ) : Type 0 where
   pub document : List ℕ
-  pub written : Gains sunk_old sunk_new document
+  pub written : Appended sunk_old sunk_new document
   pub claim : Claim
   pub is : IsBoundedFor instance document claim
   pub audited : audit_verdict document ≡ BoundedVerdictOf (Ok claim)

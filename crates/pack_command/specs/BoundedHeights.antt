@@ -11,7 +11,7 @@ use Rattle.answer_terms.specs.HeightAnswers.{BoundedStrip, Heights, NoneFits, Is
 use Rattle.bounded_heights.specs.Heights.{IsOpenWithout, IsOpenOnlyPast}
 use Rattle.proposed_answers.specs.Shares.{level_share}
 use Rattle.proposed_answers.specs.Heights.{height_count}
-use Rattle.pack_streams.specs.Moves.{Gains}
+use Rattle.pack_streams.specs.Moves.{Appended}
 
 -- The status and the document are those of an answer: a refuted and a placed height with both certificates,
 -- which have others between only where the run without families ends open, or a box that is too wide.
@@ -33,7 +33,7 @@ pub record IsBoundedLeast (instance : PlainInstance) (sunk_old sunk_new : Option
   pub packing : IsPacking (with_last_side instance height) places
   pub tokens : List FamilyToken
   pub refutation : RefutesFamilies (with_last_side instance (pred height)) (Free []) tokens
-  pub written : Gains sunk_old sunk_new (bounded_strip_text instance (Heights
+  pub written : Appended sunk_old sunk_new (bounded_strip_text instance (Heights
       (record { refuted = pred height; tokens = tokens; placed = height; places = places })))
 
 -- Two heights between which the least one lies: a refuted one and a placed one, with both certificates. The run
@@ -50,7 +50,7 @@ pub record AreBoundedBetween (proposals : Bool) (instance : PlainInstance) (sett
   pub tokens : List FamilyToken
   pub refutation : RefutesFamilies (with_last_side instance refuted) (Free []) tokens
   pub past : IsOpenWithout proposals instance settings refuted placed
-  pub written : Gains sunk_old sunk_new (bounded_strip_text instance (Heights
+  pub written : Appended sunk_old sunk_new (bounded_strip_text instance (Heights
       (record { refuted = refuted; tokens = tokens; placed = placed; places = places })))
 
 -- the boxes fit at no height: the first box that is too wide, with its first such dimension
@@ -60,7 +60,7 @@ pub record HasNoBoundedStrip (instance : PlainInstance) (sunk_old sunk_new : Opt
   pub box : ℕ
   pub dim : ℕ
   pub wide : IsFirstTooWide instance box dim
-  pub written : Gains sunk_old sunk_new (bounded_strip_text instance (NoneFits box dim))
+  pub written : Appended sunk_old sunk_new (bounded_strip_text instance (NoneFits box dim))
 
 -- one of the three
 abbrev pub AreHeightsDecided : Bool → PlainInstance → Settings → (sunk_old sunk_new : Option (List ℕ)) → ℕ → Type 0

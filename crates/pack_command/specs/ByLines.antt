@@ -3,7 +3,7 @@
 use Rattle.std.specs.Prelude.{ℕ, ◌+◌, ◌<◌, ◌≤◌, ◌⊎◌, List, length, take, Result, Ok, Err}
 use Rattle.std.specs.declared.option.Option.{Option}
 use Rattle.pack_streams.specs.Faults.{FaultCount}
-use Rattle.pack_streams.specs.Moves.{Gives}
+use Rattle.pack_streams.specs.Moves.{Consumed}
 use Rattle.pack_streams.specs.Reading.{block}
 use Rattle.text_terms.specs.Texts.{no_parts}
 use Rattle.text_terms.specs.Feeding.{Lexer}
@@ -16,7 +16,7 @@ use Rattle.document_check.specs.declared.check.CheckEnd.{CheckEnd}
 use Rattle.document_check.specs.declared.check.CheckEnd.TheVariants.{Verified, Refused, TooLong as CheckTooLong}
 use Rattle.document_check.specs.declared.check.CheckEnd.TheVariants.{ReadFault as CheckReadFault}
 use Rattle.document_check.specs.declared.check.CheckEnd.TheVariants.{NoMemory as CheckNoMemory}
-use Rattle.document_check.specs.Checked.{most_document_bytes, IsRestChecked}
+use Rattle.document_check.specs.Checked.{max_check_bytes, IsRestChecked}
 use Rattle.document_openings.specs.Openings.{IsReadByLines, IsReadWhole}
 use Rattle.answer_streams.specs.declared.verdict.Verdict.{Verdict}
 use Rattle.answer_streams.specs.declared.verdict.Verdict.TheVariants.{Verified as VerifiedAs, Refused as RefusedAs}
@@ -38,22 +38,22 @@ AreHeld bytes = IsReadWhole max_audit_bytes bytes
 -- feed of the refused line
 pub record IsBoundedTaken (old new : Option (List ℕ)) (bytes : List ℕ) : Type 0 where
   pub lines : AreByLines bytes
-  pub taken : Gives old new bytes
+  pub taken : Consumed old new bytes
   pub enough : HasVerdictUnder Bounded new bytes (bounded_verdict bytes)
 
 -- a document that is held has more bytes than are read, of which not more than one block beyond that was taken
 abbrev pub IsLongHeld : Option (List ℕ) → Option (List ℕ) → Type 0
 IsLongHeld old new =
-    (bytes : List ℕ) × Gives old new bytes × (max_audit_bytes < length bytes)
+    (bytes : List ℕ) × Consumed old new bytes × (max_audit_bytes < length bytes)
     × (length bytes ≤ max_audit_bytes + block) × AreHeld bytes
 
 -- the input broke off before more came than are held
 abbrev pub IsBrokenHeld : Option (List ℕ) → Option (List ℕ) → Type 0
-IsBrokenHeld old new = (bytes : List ℕ) × Gives old new bytes × (length bytes ≤ max_audit_bytes) × AreHeld bytes
+IsBrokenHeld old new = (bytes : List ℕ) × Consumed old new bytes × (length bytes ≤ max_audit_bytes) × AreHeld bytes
 
 -- memory was refused for what is to be held
 abbrev pub IsRefusedHeld : Option (List ℕ) → Option (List ℕ) → Type 0
-IsRefusedHeld old new = (bytes : List ℕ) × Gives old new bytes × (length bytes ≤ max_audit_bytes + block)
+IsRefusedHeld old new = (bytes : List ℕ) × Consumed old new bytes × (length bytes ≤ max_audit_bytes + block)
 
 -- why an audit ended without a verdict: the first is of a document that is held, and the second of one that is
 -- read line by line
@@ -68,14 +68,14 @@ IsUnaudited old new WriteFault = ⊥
 
 -- not more bytes than are read
 abbrev pub AreAuditable : List ℕ → Type 0
-AreAuditable bytes = (length bytes ≤ max_audit_bytes) ⊎ (AreByLines bytes × (length bytes ≤ most_document_bytes))
+AreAuditable bytes = (length bytes ≤ max_audit_bytes) ⊎ (AreByLines bytes × (length bytes ≤ max_check_bytes))
 
 -- more bytes than are read: of a document that is held, or of one that is read line by line, no line of which
 -- that is whole within the limit is refused
 abbrev pub AreTooMany : List ℕ → Type 0
 AreTooMany bytes =
     ((max_audit_bytes < length bytes) × AreHeld bytes)
-    ⊎ ((most_document_bytes < length bytes) × NoneRefusedUnder Bounded (take most_document_bytes bytes))
+    ⊎ ((max_check_bytes < length bytes) × NoneRefusedUnder Bounded (take max_check_bytes bytes))
 
 -- ---- the steps
 

@@ -12,8 +12,8 @@ use Rattle.document_terms.specs.declared.claim.Claim.TheVariants.{LeastBins, Bin
 use Rattle.answer_terms.specs.Answers.{answer_text}
 use Rattle.answer_terms.specs.Answers.Answer.{Claimed}
 use Rattle.answer_terms.specs.Solved.{none_answer}
-use Rattle.pack_streams.specs.Moves.{Gains}
-use Rattle.tree_terms.specs.RunEnds.{HasLargeCount}
+use Rattle.pack_streams.specs.Moves.{Appended}
+use Rattle.tree_terms.specs.RunEnds.{HasBinCountPastBudget}
 use Rattle.text_terms.specs.declared.settings.Settings.{Settings}
 
 -- The least number of bins over all packings, with each box's bin and place and tokens that refute
@@ -27,8 +27,8 @@ pub record IsFewest (instance : PlainInstance) (settings : Settings) (sunk_old s
   pub packing : AreBinNumbers instance bins numbers
   pub tokens : List PlainToken
   pub refutation : IsBinRefutation instance (pred bins) tokens
-  pub within : ¬ HasLargeCount instance settings.budget settings.scales
-  pub written : Gains sunk_old sunk_new (answer_text instance (Claimed (LeastBins bins) numbers tokens))
+  pub within : ¬ HasBinCountPastBudget instance settings.budget settings.scales
+  pub written : Appended sunk_old sunk_new (answer_text instance (Claimed (LeastBins bins) numbers tokens))
 
 -- Two numbers of bins between which the least one lies: a refuted one and a placed one, with both
 -- certificates. Some number of bins that was decided has more branchings than the budget.
@@ -43,8 +43,8 @@ pub record AreBinsBetween (instance : PlainInstance) (settings : Settings) (sunk
   pub packing : AreBinNumbers instance placed numbers
   pub tokens : List PlainToken
   pub refutation : IsBinRefutation instance refuted tokens
-  pub past : HasLargeCount instance settings.budget settings.scales
-  pub written : Gains sunk_old sunk_new (answer_text instance (Claimed (BinsBetween refuted placed) numbers tokens))
+  pub past : HasBinCountPastBudget instance settings.budget settings.scales
+  pub written : Appended sunk_old sunk_new (answer_text instance (Claimed (BinsBetween refuted placed) numbers tokens))
 
 -- There is no least number of bins, because of the first box that exceeds the container.
 pub record HasNoBins (instance : PlainInstance) (sunk_old sunk_new : Option (List ℕ)) (status : ℕ) : Type 0 where
@@ -53,7 +53,7 @@ pub record HasNoBins (instance : PlainInstance) (sunk_old sunk_new : Option (Lis
   pub box_no : ℕ
   pub dim : ℕ
   pub first : IsFirstTooLarge instance box_no dim
-  pub written : Gains sunk_old sunk_new (answer_text instance (none_answer NoBins (box_no, dim)))
+  pub written : Appended sunk_old sunk_new (answer_text instance (none_answer NoBins (box_no, dim)))
 
 -- one of the three
 abbrev pub AreBinsDecided : PlainInstance → Settings → (sunk_old sunk_new : Option (List ℕ)) → ℕ → Type 0

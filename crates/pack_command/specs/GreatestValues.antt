@@ -10,8 +10,8 @@ use Rattle.document_terms.specs.Claims.{IsValueBetween}
 use Rattle.document_terms.specs.declared.claim.Claim.TheVariants.{GreatestValue, ValueBetween}
 use Rattle.answer_terms.specs.Answers.{answer_text}
 use Rattle.answer_terms.specs.Answers.Answer.{Claimed}
-use Rattle.pack_streams.specs.Moves.{Gains}
-use Rattle.tree_terms.specs.RunEnds.{HasLargeWorth}
+use Rattle.pack_streams.specs.Moves.{Appended}
+use Rattle.tree_terms.specs.RunEnds.{HasValuePastBudget}
 use Rattle.text_terms.specs.declared.settings.Settings.{Settings}
 
 -- The greatest value over all sets of boxes that fit, with the taken boxes and their places and
@@ -25,8 +25,8 @@ pub record IsGreatest (instance : PlainInstance) (settings : Settings) (sunk_old
   pub packing : AreTakenNumbers instance value numbers
   pub tokens : List PlainToken
   pub refutation : IsValueRefutation instance (suc value) tokens
-  pub within : ¬ HasLargeWorth instance settings.budget settings.scales
-  pub written : Gains sunk_old sunk_new (answer_text instance (Claimed (GreatestValue value) numbers tokens))
+  pub within : ¬ HasValuePastBudget instance settings.budget settings.scales
+  pub written : Appended sunk_old sunk_new (answer_text instance (Claimed (GreatestValue value) numbers tokens))
 
 -- Two values between which the greatest one lies: a placed one and a refuted one, with both
 -- certificates. Some value that was decided has more branchings than the budget.
@@ -41,8 +41,8 @@ pub record AreValuesBetween (instance : PlainInstance) (settings : Settings) (su
   pub packing : AreTakenNumbers instance placed numbers
   pub tokens : List PlainToken
   pub refutation : IsValueRefutation instance refuted tokens
-  pub past : HasLargeWorth instance settings.budget settings.scales
-  pub written : Gains sunk_old sunk_new (answer_text instance (Claimed (ValueBetween placed refuted) numbers tokens))
+  pub past : HasValuePastBudget instance settings.budget settings.scales
+  pub written : Appended sunk_old sunk_new (answer_text instance (Claimed (ValueBetween placed refuted) numbers tokens))
 
 -- one of the two
 abbrev pub IsValueDecided : PlainInstance → Settings → (sunk_old sunk_new : Option (List ℕ)) → ℕ → Type 0

@@ -4,7 +4,7 @@ use Rattle.std.specs.declared.option.Option.{Option}
 use Rattle.std.specs.Io.KnownBytes.{IsAtEnd}
 use Rattle.packing_terms.specs.Packing.{PlainInstance}
 use Rattle.text_terms.specs.Texts.{text_instance}
-use Rattle.pack_streams.specs.Moves.{Gives}
+use Rattle.pack_streams.specs.Moves.{Consumed}
 use Rattle.pack_streams.specs.Reading.{block}
 use Rattle.pack_command.specs.declared.stop.Stop.{Stop}
 use Rattle.pack_command.specs.declared.stop.Stop.TheVariants.{Words, TooLong, Text, Dimensions, ReadFault, WriteFault}
@@ -20,14 +20,14 @@ max_audit_bytes = 16777216
 
 -- these bytes are all that the source had to give, and not too many
 pub record IsWholeInput (old new : Option (List ℕ)) (bytes : List ℕ) : Type 0 where
-  pub taken : Gives old new bytes
+  pub taken : Consumed old new bytes
   pub ended : IsAtEnd new
   pub within : length bytes ≤ max_instance_bytes
 
 -- bytes were taken, not more than one block beyond the limit
 pub record IsPartTaken (old new : Option (List ℕ)) : Type 0 where
   pub bytes : List ℕ
-  pub taken : Gives old new bytes
+  pub taken : Consumed old new bytes
   pub within : length bytes ≤ max_instance_bytes + block
 
 -- the instance of the whole input, or why there is none
@@ -37,9 +37,9 @@ IsInputRead old new (Ok instance) =
 IsInputRead old new (Err (Text fault)) =
     (bytes : List ℕ) × IsWholeInput old new bytes × (text_instance bytes ≡ Err fault)
 IsInputRead old new (Err TooLong) =
-    (bytes : List ℕ) × Gives old new bytes × (max_instance_bytes < length bytes)
+    (bytes : List ℕ) × Consumed old new bytes × (max_instance_bytes < length bytes)
     × (length bytes ≤ max_instance_bytes + block)
-IsInputRead old new (Err ReadFault) = (bytes : List ℕ) × Gives old new bytes × (length bytes ≤ max_instance_bytes)
+IsInputRead old new (Err ReadFault) = (bytes : List ℕ) × Consumed old new bytes × (length bytes ≤ max_instance_bytes)
 IsInputRead old new (Err NoMemory) = IsPartTaken old new
 IsInputRead old new (Err Words) = ⊥
 IsInputRead old new (Err Dimensions) = ⊥

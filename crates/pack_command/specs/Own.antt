@@ -9,7 +9,7 @@ use Rattle.answer_terms.specs.declared.job.ReducedJob.{ReducedJob}
 use Rattle.verdict_terms.specs.Documents.{Refusal, document_verdict}
 use Rattle.answer_terms.specs.Own.{IsVerifiedFor, IsReducedFor}
 use Rattle.answer_terms.specs.Answers.{claim_status}
-use Rattle.pack_streams.specs.Moves.{Gains}
+use Rattle.pack_streams.specs.Moves.{Appended}
 use Rattle.answer_streams.specs.Audited.{audit_verdict, ReducedVerdictOf}
 use Rattle.pack_command.specs.Decides.{AsksWhetherFits}
 
@@ -47,5 +47,5 @@ pub record IsUndecidedOutput (job : DocumentJob) (document : List ℕ) (status :
 pub record IsOutputVerified (job : DocumentJob) (instance : PlainInstance) (sunk_old sunk_new : Option (List ℕ))
     (status : ℕ) : Type 0 where
   pub document : List ℕ
-  pub written : Gains sunk_old sunk_new document
+  pub written : Appended sunk_old sunk_new document
   pub own : IsVerified job instance document status ⊎ IsUndecidedOutput job document status

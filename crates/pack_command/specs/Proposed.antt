@@ -33,11 +33,11 @@ use Rattle.bin_knapsack.specs.Choices.{IsTrueChoice}
 use Rattle.class_search.specs.Right.{IsRight}
 use Rattle.proposed_answers.specs.Behind.{has_scale_line, IsWithoutScales}
 use Rattle.proposed_answers.specs.Shares.{level_share}
-use Rattle.proposed_answers.specs.Heights.{height_count, IsNamedStrip, IsLimitedStrip, IsPastBeside}
-use Rattle.proposed_answers.specs.Counts.{bins_count, AreNamedBins, AreLimitedBins, IsPastBeside as IsPastBins}
-use Rattle.proposed_answers.specs.Values.{value_count, IsLimitedChoice, IsPastBeside as IsPastChoice}
-use Rattle.pack_streams.specs.Moves.{Gains}
-use Rattle.pack_streams.specs.Writing.{GainsPart}
+use Rattle.proposed_answers.specs.Heights.{height_count, IsNamedStrip, IsLimitedStrip, AreNeighboursPastBudget}
+use Rattle.proposed_answers.specs.Counts.{bins_count, AreNamedBins, AreLimitedBins, AreNeighboursPastBudget as IsPastBins}
+use Rattle.proposed_answers.specs.Values.{value_count, IsLimitedChoice, AreNeighboursPastBudget as IsPastChoice}
+use Rattle.pack_streams.specs.Moves.{Appended}
+use Rattle.pack_streams.specs.Writing.{AppendedPrefix}
 use Rattle.pack_command.specs.Answered.{branchings}
 use Rattle.pack_command.specs.Asked.{ProposedJob, Plain, ValueBounds, HeightBounds, AsksProposed}
 use Rattle.pack_command.specs.Bounded.{IsBoundedFound}
@@ -65,7 +65,7 @@ pub record IsProposedStrip (settings : Settings) (instance : PlainInstance) (ans
   pub right : IsTrueStrip instance strip
   pub named : IsNamedStrip instance strip
   pub limited : IsLimitedStrip strip
-  pub past : IsPastBeside instance settings.budget settings.scales strip
+  pub past : AreNeighboursPastBudget instance settings.budget settings.scales strip
   pub answer_is : answer ≡ strip_found strip
 
 -- The answer for bins, which is true; it is two numbers only where the bin trees of the number above the
@@ -136,7 +136,7 @@ pub record IsProposedWritten (words : List (String Global)) (old new sunk_old su
   pub instance : PlainInstance
   pub document : List ℕ
   pub answered : IsProposedAnswered words old new job settings instance status document
-  pub written : Gains sunk_old sunk_new document
+  pub written : Appended sunk_old sunk_new document
 
 -- an answer was found, and a part at the front of its document was written
 pub record IsProposedPartlyWritten (words : List (String Global)) (old new sunk_old sunk_new : Option (List ℕ)) : Type 0 where
@@ -146,7 +146,7 @@ pub record IsProposedPartlyWritten (words : List (String Global)) (old new sunk_
   pub status : ℕ
   pub document : List ℕ
   pub answered : IsProposedAnswered words old new job settings instance status document
-  pub part : GainsPart sunk_old sunk_new document
+  pub part : AppendedPrefix sunk_old sunk_new document
 
 -- the words ask for a job with proposals
 abbrev pub AsksForProposals : List (String Global) → Type 0
@@ -171,7 +171,7 @@ pub record IsProposedYes (instance : PlainInstance) (sunk_old sunk_new : Option 
   pub status_is : status ≡ 0
   pub places : List ℕ
   pub packing : IsPacking instance places
-  pub written : Gains sunk_old sunk_new (answer_text instance (Claimed Fitting places []))
+  pub written : Appended sunk_old sunk_new (answer_text instance (Claimed Fitting places []))
 
 -- no, with the tokens of a refutation, where the instance doesn't fit; none of them is a line of scale
 -- functions if these aren't wanted
@@ -182,14 +182,14 @@ pub record IsProposedNo (instance : PlainInstance) (settings : Settings) (sunk_o
   pub tokens : List PlainToken
   pub refutation : Refutes instance [] tokens
   pub plain : settings.scales ≡ false → has_scale_line tokens ≡ false
-  pub written : Gains sunk_old sunk_new (answer_text instance (Claimed NotFitting [] tokens))
+  pub written : Appended sunk_old sunk_new (answer_text instance (Claimed NotFitting [] tokens))
 
 -- undecided, only where the count of branchings of the class tree is greater than the budget
 pub record IsProposedUndecided (instance : PlainInstance) (settings : Settings) (sunk_old sunk_new : Option (List ℕ))
     (status : ℕ) : Type 0 where
   pub status_is : status ≡ 3
   pub past : settings.budget < branchings settings instance
-  pub written : Gains sunk_old sunk_new (answer_text instance Undecided)
+  pub written : Appended sunk_old sunk_new (answer_text instance Undecided)
 
 -- one of the three
 abbrev pub IsProposedFitDecided : PlainInstance → Settings → (sunk_old sunk_new : Option (List ℕ)) → ℕ → Type 0
@@ -210,7 +210,7 @@ pub record IsProposedLeast (instance : PlainInstance) (sunk_old sunk_new : Optio
   pub packing : IsPacking (with_last_side instance height) places
   pub tokens : List PlainToken
   pub refutation : Refutes (with_last_side instance (pred height)) [] tokens
-  pub written : Gains sunk_old sunk_new (answer_text instance (Claimed (LeastHeight height) places tokens))
+  pub written : Appended sunk_old sunk_new (answer_text instance (Claimed (LeastHeight height) places tokens))
 
 -- Two heights between which the least one lies: a refuted one and a placed one, with both certificates.
 -- The class trees of the height above the refuted one and of the height below the placed one have more
@@ -228,7 +228,7 @@ pub record IsProposedBetween (instance : PlainInstance) (settings : Settings) (s
   pub refutation : Refutes (with_last_side instance refuted) [] tokens
   pub past_above : level_share settings.budget < height_count instance settings.scales (suc refuted)
   pub past_below : level_share settings.budget < height_count instance settings.scales (pred placed)
-  pub written : Gains sunk_old sunk_new (answer_text instance (Claimed (HeightBetween refuted placed) places tokens))
+  pub written : Appended sunk_old sunk_new (answer_text instance (Claimed (HeightBetween refuted placed) places tokens))
 
 -- one of the two, or none
 abbrev pub IsProposedStripDecided : PlainInstance → Settings → (sunk_old sunk_new : Option (List ℕ)) → ℕ → Type 0
@@ -248,7 +248,7 @@ pub record IsProposedFewest (instance : PlainInstance) (sunk_old sunk_new : Opti
   pub packing : AreBinNumbers instance bins numbers
   pub tokens : List PlainToken
   pub refutation : IsBinRefutation instance (pred bins) tokens
-  pub written : Gains sunk_old sunk_new (answer_text instance (Claimed (LeastBins bins) numbers tokens))
+  pub written : Appended sunk_old sunk_new (answer_text instance (Claimed (LeastBins bins) numbers tokens))
 
 -- Two numbers of bins between which the least one lies: a refuted one and a placed one, with both
 -- certificates. The bin trees of the number above the refuted one and of the number below the placed one
@@ -266,7 +266,7 @@ pub record AreProposedBetween (instance : PlainInstance) (settings : Settings) (
   pub refutation : IsBinRefutation instance refuted tokens
   pub past_above : settings.budget < bins_count instance settings.scales (suc refuted)
   pub past_below : settings.budget < bins_count instance settings.scales (pred placed)
-  pub written : Gains sunk_old sunk_new (answer_text instance (Claimed (BinsBetween refuted placed) numbers tokens))
+  pub written : Appended sunk_old sunk_new (answer_text instance (Claimed (BinsBetween refuted placed) numbers tokens))
 
 -- one of the two, or none
 abbrev pub AreProposedBinsDecided : PlainInstance → Settings → (sunk_old sunk_new : Option (List ℕ)) → ℕ → Type 0
@@ -287,7 +287,7 @@ pub record IsProposedGreatest (instance : PlainInstance) (sunk_old sunk_new : Op
   pub packing : AreTakenNumbers instance value numbers
   pub tokens : List PlainToken
   pub refutation : IsValueRefutation instance (suc value) tokens
-  pub written : Gains sunk_old sunk_new (answer_text instance (Claimed (GreatestValue value) numbers tokens))
+  pub written : Appended sunk_old sunk_new (answer_text instance (Claimed (GreatestValue value) numbers tokens))
 
 -- Two values between which the greatest one lies: a placed one and a refuted one, with both certificates.
 -- The choice trees of the value above the placed one and of the value below the refuted one have more
@@ -305,7 +305,7 @@ pub record AreProposedValues (instance : PlainInstance) (settings : Settings) (s
   pub refutation : IsValueRefutation instance refuted tokens
   pub past_above : level_share settings.budget < value_count instance settings.scales (suc placed)
   pub past_below : level_share settings.budget < value_count instance settings.scales (pred refuted)
-  pub written : Gains sunk_old sunk_new (answer_text instance (Claimed (ValueBetween placed refuted) numbers tokens))
+  pub written : Appended sunk_old sunk_new (answer_text instance (Claimed (ValueBetween placed refuted) numbers tokens))
 
 -- one of the two
 abbrev pub IsProposedValueDecided : PlainInstance → Settings → (sunk_old sunk_new : Option (List ℕ)) → ℕ → Type 0

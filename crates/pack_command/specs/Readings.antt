@@ -4,9 +4,9 @@ use Rattle.std.specs.Prelude.{ℕ, ◌≡◌, ◌+◌, ◌<◌, ◌≤◌, ◌�
 use Rattle.std.specs.declared.option.Option.{Option}
 use Rattle.std.specs.declared.alloc.Global.{Global}
 use Rattle.std.specs.Io.KnownBytes.{IsAtEnd}
-use Rattle.pack_streams.specs.Moves.{Gives, Gains}
+use Rattle.pack_streams.specs.Moves.{Consumed, Appended}
 use Rattle.pack_streams.specs.Reading.{block}
-use Rattle.pack_streams.specs.Writing.{GainsPart}
+use Rattle.pack_streams.specs.Writing.{AppendedPrefix}
 use Rattle.answer_streams.specs.Audited.{audit_verdict, audit_line, audit_status, IsToldAs}
 use Rattle.answer_streams.specs.declared.audited.AuditedVerdict.{AuditedVerdict}
 use Rattle.pack_command.specs.ByLines.{AreHeld, IsBoundedTaken, IsUnaudited, AreAuditable, AreTooMany}
@@ -29,7 +29,7 @@ HasTaskResult Explains bytes status text = IsExplainedTo bytes status text
 
 -- these bytes are all that the source had to give, and not too many
 pub record IsWholeDocument (old new : Option (List ℕ)) (bytes : List ℕ) : Type 0 where
-  pub taken : Gives old new bytes
+  pub taken : Consumed old new bytes
   pub ended : IsAtEnd new
   pub within : length bytes ≤ max_audit_bytes
 
@@ -37,10 +37,10 @@ pub record IsWholeDocument (old new : Option (List ℕ)) (bytes : List ℕ) : Ty
 abbrev pub IsDocumentRead : Option (List ℕ) → Option (List ℕ) → Result (Vec ℕ Global) Stop → Type 0
 IsDocumentRead old new (Ok bytes) = IsWholeDocument old new bytes.items
 IsDocumentRead old new (Err TooLong) =
-    (bytes : List ℕ) × Gives old new bytes × (max_audit_bytes < length bytes) × (length bytes ≤ max_audit_bytes + block)
-IsDocumentRead old new (Err ReadFault) = (bytes : List ℕ) × Gives old new bytes × (length bytes ≤ max_audit_bytes)
+    (bytes : List ℕ) × Consumed old new bytes × (max_audit_bytes < length bytes) × (length bytes ≤ max_audit_bytes + block)
+IsDocumentRead old new (Err ReadFault) = (bytes : List ℕ) × Consumed old new bytes × (length bytes ≤ max_audit_bytes)
 IsDocumentRead old new (Err NoMemory) =
-    (bytes : List ℕ) × Gives old new bytes × (length bytes ≤ max_audit_bytes + block)
+    (bytes : List ℕ) × Consumed old new bytes × (length bytes ≤ max_audit_bytes + block)
 IsDocumentRead old new (Err Words) = ⊥
 IsDocumentRead old new (Err (Text fault)) = ⊥
 IsDocumentRead old new (Err Dimensions) = ⊥
@@ -73,7 +73,7 @@ pub record IsReadingDone (task : DocumentTask) (old new sunk_old sunk_new : Opti
   pub input : IsDocumentTaken task old new bytes
   pub text : List ℕ
   pub comes : HasTaskResult task bytes status text
-  pub written : Gains sunk_old sunk_new text
+  pub written : Appended sunk_old sunk_new text
 
 -- enough of the input was taken, and a part at the front of the text was written
 pub record IsTaskPartlyWritten (task : DocumentTask) (old new sunk_old sunk_new : Option (List ℕ)) : Type 0 where
@@ -82,7 +82,7 @@ pub record IsTaskPartlyWritten (task : DocumentTask) (old new sunk_old sunk_new 
   pub status : ℕ
   pub text : List ℕ
   pub comes : HasTaskResult task bytes status text
-  pub part : GainsPart sunk_old sunk_new text
+  pub part : AppendedPrefix sunk_old sunk_new text
 
 -- why the job ended without its text
 abbrev pub IsWithoutReading : DocumentTask → (old new sunk_old sunk_new : Option (List ℕ)) → Stop → Type 0
@@ -99,7 +99,7 @@ pub record IsTaskOutput (task : DocumentTask) (bytes : List ℕ) (sunk_old sunk_
     Type 0 where
   pub text : List ℕ
   pub comes : HasTaskResult task bytes status text
-  pub written : Gains sunk_old sunk_new text
+  pub written : Appended sunk_old sunk_new text
 
 -- the verdict of an audit, or why there is none
 abbrev pub IsAuditRead : Option (List ℕ) → Option (List ℕ) → Result AuditedVerdict Stop → Type 0

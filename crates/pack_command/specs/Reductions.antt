@@ -10,7 +10,7 @@ use Rattle.tree_terms.specs.ClassTree.{class_tree}
 use Rattle.document_terms.specs.declared.claim.Claim.TheVariants.{Fitting, NotFitting}
 use Rattle.answer_terms.specs.Answers.Answer.{Undecided, Claimed}
 use Rattle.answer_terms.specs.Reduced.{reduced_text}
-use Rattle.pack_streams.specs.Moves.{Gains}
+use Rattle.pack_streams.specs.Moves.{Appended}
 use Rattle.text_terms.specs.declared.settings.Settings.{Settings}
 
 -- the count of branchings of the class tree that begins with the symmetry facts
@@ -25,7 +25,7 @@ pub record IsReducedYes (instance : PlainInstance) (settings : Settings) (sunk_o
   pub places : List ℕ
   pub packing : IsPacking instance places
   pub within : reduced_branchings settings instance ≤ settings.budget
-  pub written : Gains sunk_old sunk_new (reduced_text instance (Claimed Fitting places []))
+  pub written : Appended sunk_old sunk_new (reduced_text instance (Claimed Fitting places []))
 
 -- no, where the instance doesn't fit, with the tokens of a refutation under its symmetry facts, and
 -- a count of branchings within the budget
@@ -36,14 +36,14 @@ pub record IsReducedNo (instance : PlainInstance) (settings : Settings) (sunk_ol
   pub tokens : List PlainToken
   pub refutation : Refutes instance (symmetry_facts instance) tokens
   pub within : reduced_branchings settings instance ≤ settings.budget
-  pub written : Gains sunk_old sunk_new (reduced_text instance (Claimed NotFitting [] tokens))
+  pub written : Appended sunk_old sunk_new (reduced_text instance (Claimed NotFitting [] tokens))
 
 -- undecided, where the count of branchings is greater than the budget
 pub record IsReducedUndecided (instance : PlainInstance) (settings : Settings) (sunk_old sunk_new : Option (List ℕ))
     (status : ℕ) : Type 0 where
   pub status_is : status ≡ 3
   pub past : settings.budget < reduced_branchings settings instance
-  pub written : Gains sunk_old sunk_new (reduced_text instance Undecided)
+  pub written : Appended sunk_old sunk_new (reduced_text instance Undecided)
 
 -- one of the three
 abbrev pub IsReducedDecided : PlainInstance → Settings → (sunk_old sunk_new : Option (List ℕ)) → ℕ → Type 0

@@ -6,8 +6,8 @@ use Rattle.packing_terms.specs.Packing.{PlainInstance}
 use Rattle.packing_terms.specs.Limits.{IsInstance}
 use Rattle.text_terms.specs.Texts.{text_instance}
 use Rattle.pack_streams.specs.Faults.{FaultCount}
-use Rattle.pack_streams.specs.Moves.{Gains}
-use Rattle.pack_streams.specs.Writing.{GainsPart, Writes}
+use Rattle.pack_streams.specs.Moves.{Appended}
+use Rattle.pack_streams.specs.Writing.{AppendedPrefix, Writes}
 use Rattle.text_terms.specs.declared.settings.Settings.{Settings}
 use Rattle.answer_terms.specs.declared.job.DocumentJob.{DocumentJob}
 use Rattle.pack_command.specs.Answered.{answer_for}
@@ -38,7 +38,7 @@ pub record IsDocumentPartlyWritten (words : List (String Global)) (old new sunk_
   pub status : ℕ
   pub document : List ℕ
   pub answered : IsAnswered words old new status document
-  pub part : GainsPart sunk_old sunk_new document
+  pub part : AppendedPrefix sunk_old sunk_new document
 
 -- the words ask for a solving job
 abbrev pub Asks : List (String Global) → Type 0
@@ -63,7 +63,7 @@ pub record IsWritten (words : List (String Global)) (old new sunk_old sunk_new :
     Type 0 where
   pub document : List ℕ
   pub answered : IsAnswered words old new status document
-  pub written : Gains sunk_old sunk_new document
+  pub written : Appended sunk_old sunk_new document
 
 -- the message is written whole, unless a write of the sink fails, which is the last one then
 abbrev pub IsMessageWritten : (sunk_old sunk_new : Option (List ℕ)) → FaultCount → FaultCount → List ℕ → Type 0

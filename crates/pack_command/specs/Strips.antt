@@ -13,9 +13,9 @@ use Rattle.answer_streams.specs.declared.tree_start.TreeStart.{TreeStart}
 use Rattle.answer_streams.specs.declared.tree_start.TreeStart.TheVariants.{Nothing}
 use Rattle.answer_terms.specs.Answers.Answer.{Claimed}
 use Rattle.answer_terms.specs.Solved.{none_answer}
-use Rattle.pack_streams.specs.Moves.{Gains}
+use Rattle.pack_streams.specs.Moves.{Appended}
 use Rattle.answer_streams.specs.Headed.{headed_text, start_facts}
-use Rattle.reduced_levels.specs.Heights.{HasLargeHeightFrom}
+use Rattle.reduced_levels.specs.Heights.{HasHeightPastBudgetFrom}
 use Rattle.text_terms.specs.declared.settings.Settings.{Settings}
 
 -- The least height over all packings, with places that are a packing in it and tokens that refute
@@ -29,8 +29,8 @@ pub record IsLeastStrip (start : TreeStart) (instance : PlainInstance) (settings
   pub packing : IsPacking (with_last_side instance height) places
   pub tokens : List PlainToken
   pub refutation : Refutes (with_last_side instance (pred height)) (start_facts start instance) tokens
-  pub within : ¬ HasLargeHeightFrom (start_facts start instance) instance settings.budget settings.scales
-  pub written : Gains sunk_old sunk_new (headed_text start instance (Claimed (LeastHeight height) places tokens))
+  pub within : ¬ HasHeightPastBudgetFrom (start_facts start instance) instance settings.budget settings.scales
+  pub written : Appended sunk_old sunk_new (headed_text start instance (Claimed (LeastHeight height) places tokens))
 
 -- Two heights between which the least one lies: a refuted one and a placed one, with both
 -- certificates. Some height that was decided has more branchings than the budget.
@@ -45,8 +45,8 @@ pub record IsStripBetween (start : TreeStart) (instance : PlainInstance) (settin
   pub packing : IsPacking (with_last_side instance placed) places
   pub tokens : List PlainToken
   pub refutation : Refutes (with_last_side instance refuted) (start_facts start instance) tokens
-  pub past : HasLargeHeightFrom (start_facts start instance) instance settings.budget settings.scales
-  pub written : Gains sunk_old sunk_new
+  pub past : HasHeightPastBudgetFrom (start_facts start instance) instance settings.budget settings.scales
+  pub written : Appended sunk_old sunk_new
       (headed_text start instance (Claimed (HeightBetween refuted placed) places tokens))
 
 -- There is no least height, because of the first box that exceeds the container in a dimension
@@ -58,7 +58,7 @@ pub record HasNoStripUnder (start : TreeStart) (instance : PlainInstance) (sunk_
   pub box_no : ℕ
   pub dim : ℕ
   pub first : IsFirstTooWide instance box_no dim
-  pub written : Gains sunk_old sunk_new (headed_text start instance (none_answer NoHeight (box_no, dim)))
+  pub written : Appended sunk_old sunk_new (headed_text start instance (none_answer NoHeight (box_no, dim)))
 
 -- the same of trees that begin with nothing
 abbrev pub HasNoStrip : PlainInstance → (sunk_old sunk_new : Option (List ℕ)) → ℕ → Type 0

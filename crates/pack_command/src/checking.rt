@@ -1,7 +1,7 @@
 //! The job `check`: a document is verified, or refused at its first faulty line.
 ghost use Rattle.std.specs.Prelude.{◌≡◌, ◌≢◌, ◌<◌, ◌≤◌, ◌⊎◌, ℕ, List, length, take, Some, IfOk, IfErr};
 ghost use Rattle.verdict_terms.specs.Fed.{NoneRefused};
-ghost use Rattle.document_check.specs.Checked.{most_document_bytes};
+ghost use Rattle.document_check.specs.Checked.{max_check_bytes};
 ghost use Rattle.pack_command.specs.Counts.{CountsReads, CountsWrites, CountsStatus, IsFaultStatus};
 ghost use Rattle.pack_command.specs.Stops.{stop_status};
 ghost use Rattle.pack_command.specs.Checks.{IsVerdict, IsVerdictStatus, IsVerdictWritten, IsWithoutVerdict, IsVerdictOutput, IsVerifiedClaim};
@@ -80,11 +80,11 @@ pub fn check_stream<S: Source, K: Sink>(alloc: Global, input: &mut S, out: &mut 
     ensures exactly { (bytes : List ℕ) → S.left input.old ≡ Some bytes → IsVerdictStatus result
         → IsVerdictOutput bytes (K.written out.old) (K.written out.new) result }
     ensures completes { (bytes : List ℕ) → S.left input.old ≡ Some bytes
-        → length bytes ≤ most_document_bytes → IsVerdictStatus result ⊎ IsFaultStatus result }
+        → length bytes ≤ max_check_bytes → IsVerdictStatus result ⊎ IsFaultStatus result }
 
     // Where more bytes come, and no line that is whole within the limit is refused, it is too long.
     ensures too_long { (bytes : List ℕ) → S.left input.old ≡ Some bytes
-        → most_document_bytes < length bytes → NoneRefused (take most_document_bytes bytes)
+        → max_check_bytes < length bytes → NoneRefused (take max_check_bytes bytes)
         → (result ≡ 2) ⊎ IsFaultStatus result }
 
     // What is verified is true.

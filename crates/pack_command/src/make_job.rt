@@ -1,6 +1,6 @@
 //! The job `make`: an instance is made of a number, and decided.
 ghost use Rattle.std.specs.Prelude.{◌≡◌, ◌≢◌, IfOk, IfErr, OnOk};
-ghost use Rattle.pack_streams.specs.Moves.{Gains};
+ghost use Rattle.pack_streams.specs.Moves.{Appended};
 ghost use Rattle.pack_command.specs.Counts.{CountsWrites};
 ghost use Rattle.pack_command.specs.Generated.{made_for, IsSummaryPartlyWritten, IsMadeOf};
 
@@ -46,7 +46,7 @@ pub(crate) fn run_make<R: Threads + Wait + Sync, K: Sink, G: Gate + Sync>(
 ) -> Result<u8, Stop>
     ensures status { IfOk result (λ status. status ≡ (made_for number settings.now).status) }
     ensures written { OnOk result
-        (Gains (K.written out.old) (K.written out.new) (made_for number settings.now).text) }
+        (Appended (K.written out.old) (K.written out.new) (made_for number settings.now).text) }
     ensures cut { IfErr result
         (IsSummaryPartlyWritten number settings.now (K.written out.old) (K.written out.new)) }
     ensures unwritten { IfErr result (λ stop. stop ≢ Stop.WriteFault → out.new ≡ out.old) }

@@ -2,7 +2,7 @@
 ghost use Rattle.std.specs.Prelude.{◌≡◌, ◌≢◌, ◌≤◌, ◌+◌, ◌⊎◌, ℕ, Bool, List, String, Err, IfOk, IfErr};
 ghost use Rattle.std.specs.declared.alloc.Global.{Global as PlainGlobal};
 ghost use Rattle.packing_terms.specs.Packing.{PlainInstance};
-ghost use Rattle.pack_streams.specs.Moves.{Gains};
+ghost use Rattle.pack_streams.specs.Moves.{Appended};
 ghost use Rattle.answer_terms.specs.declared.job.DocumentJob.{DocumentJob as PlainJob};
 ghost use Rattle.answer_terms.specs.declared.job.DocumentJob.TheVariants.{Solving as Solves};
 ghost use Rattle.document_terms.specs.declared.claim.SolvingJob.{SolvingJob as PlainSolvingJob};
@@ -86,7 +86,7 @@ pub fn run<R: Threads + Wait + Sync, S: Source, K: Sink, E: Sink, G: Gate + Sync
     ensures answers { (job : PlainJob) (settings : PlainSettings) (instance : PlainInstance)
         → IsSolving words.now (S.left input.old) job settings instance → IsAnswerStatus result
         → (result ≡ (answer_for job settings instance).status)
-        × Gains (K.written out.old) (K.written out.new) (answer_for job settings instance).text }
+        × Appended (K.written out.old) (K.written out.new) (answer_for job settings instance).text }
 
     // None is undecided or between where the budget is enough for every tree of the job: then the
     // status of `fit` or `reduced` says exactly whether the instance fits.
@@ -149,7 +149,7 @@ pub fn run<R: Threads + Wait + Sync, S: Source, K: Sink, E: Sink, G: Gate + Sync
     ensures front_exact { (settings : PlainSettings) (instance : PlainInstance)
         → IsFrontRun words.now (S.left input.old) settings instance → IsAnswerStatus result
         → (result ≡ (front_for settings instance).status)
-        × Gains (K.written out.old) (K.written out.new) (front_for settings instance).text }
+        × Appended (K.written out.old) (K.written out.new) (front_for settings instance).text }
     ensures whole { (settings : PlainSettings) (instance : PlainInstance)
         → IsFrontRun words.now (S.left input.old) settings instance
         → class_bound instance ≤ settings.budget + 1 → result ≢ 3 }

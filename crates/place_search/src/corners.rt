@@ -9,8 +9,8 @@
 
 use crate::gaps::Ended;
 use box_instances::NoMemory;
-use fill_search::{Turned, clear};
-use loose_lists::{at, put, zeros};
+use fill_search::{OrientedInstance, clear};
+use lenient_lists::{at, put, zeros};
 use std::alloc::Global;
 
 // A node on the way down: its point, the next try, the box that was laid from here, counted from 1,
@@ -105,7 +105,7 @@ impl CornerSearch {
 
     // Where a laid box ends.
     #[inline]
-    fn end(&self, turned: &Turned, v: u32, dim: u32) -> u32 {
+    fn end(&self, turned: &OrientedInstance, v: u32, dim: u32) -> u32 {
         self.start(v, dim).saturating_add(turned.side(v, dim))
     }
 
@@ -133,7 +133,7 @@ impl CornerSearch {
     }
 
     // Whether a box with its corner at a point would overlap one that is laid.
-    fn meets(&self, turned: &Turned, v: u32, point: usize, u: u32) -> bool {
+    fn meets(&self, turned: &OrientedInstance, v: u32, point: usize, u: u32) -> bool {
         for dim in 0..self.dims {
             let begin = self.coordinate(point, dim);
             let end = begin.saturating_add(turned.side(v, dim));
@@ -145,7 +145,7 @@ impl CornerSearch {
     }
 
     // Whether a box may have its corner at a point.
-    fn has_room(&self, turned: &Turned, v: u32, point: usize, boxes: usize) -> bool {
+    fn has_room(&self, turned: &OrientedInstance, v: u32, point: usize, boxes: usize) -> bool {
         for dim in 0..self.dims {
             let begin = self.coordinate(point, dim);
             if begin.saturating_add(turned.side(v, dim)) > turned.container(dim) {
@@ -161,7 +161,13 @@ impl CornerSearch {
     }
 
     // The next try of a level: the boxes in the given order, and then the loss of the point.
-    fn next_try(&mut self, turned: &Turned, order: &[u32], twins: &[u32], depth: usize) -> Try {
+    fn next_try(
+        &mut self,
+        turned: &OrientedInstance,
+        order: &[u32],
+        twins: &[u32],
+        depth: usize,
+    ) -> Try {
         let level = self.level(depth);
         let count = turned.count;
         for position in level.next..count {
@@ -200,7 +206,7 @@ impl CornerSearch {
     }
 
     // Whether a laid box covers a coordinate of a point in each dimension but one.
-    fn is_beside(&self, turned: &Turned, u: u32, point: usize, but: u32) -> bool {
+    fn is_beside(&self, turned: &OrientedInstance, u: u32, point: usize, but: u32) -> bool {
         for dim in 0..self.dims {
             let x = self.coordinate(point, dim);
             if dim != but && (x < self.start(u, dim) || self.end(turned, u, dim) <= x) {
@@ -211,7 +217,7 @@ impl CornerSearch {
     }
 
     // Where a point comes to as it is pushed back along a dimension.
-    fn pushed_back(&self, turned: &Turned, point: usize, dim: u32, boxes: usize) -> u32 {
+    fn pushed_back(&self, turned: &OrientedInstance, point: usize, dim: u32, boxes: usize) -> u32 {
         let from = self.coordinate(point, dim);
         let mut to = 0;
         for k in 0..boxes {
@@ -241,7 +247,13 @@ impl CornerSearch {
     }
 
     // Adds the points of a box that was laid, and answers how many there are then.
-    fn add_points(&mut self, turned: &Turned, v: u32, points: usize, boxes: usize) -> usize {
+    fn add_points(
+        &mut self,
+        turned: &OrientedInstance,
+        v: u32,
+        points: usize,
+        boxes: usize,
+    ) -> usize {
         let mut count = points;
         for far in 0..self.dims {
             for back in 0..self.dims {
@@ -278,7 +290,7 @@ impl CornerSearch {
     }
 
     // Lays a box at the point of a level.
-    fn lay(&mut self, turned: &Turned, depth: usize, v: u32) {
+    fn place_box(&mut self, turned: &OrientedInstance, depth: usize, v: u32) {
         let level = self.level(depth);
         for dim in 0..self.dims {
             let x = self.coordinate(level.point, dim);
@@ -325,7 +337,13 @@ impl CornerSearch {
     }
 
     /// Searches with an order of the boxes, for at most so many steps.
-    pub fn run(&mut self, turned: &Turned, order: &[u32], twins: &[u32], steps: u64) -> Ended {
+    pub fn run(
+        &mut self,
+        turned: &OrientedInstance,
+        order: &[u32],
+        twins: &[u32],
+        steps: u64,
+    ) -> Ended {
         self.begin();
         let mut depth = 0usize;
         let mut left = turned.count;
@@ -335,7 +353,7 @@ impl CornerSearch {
             }
             match self.next_try(turned, order, twins, depth) {
                 Try::Lay(v) => {
-                    self.lay(turned, depth, v);
+                    self.place_box(turned, depth, v);
                     depth = depth.saturating_add(1);
                     left = left.saturating_sub(1);
                 }

@@ -8,8 +8,8 @@
 
 use crate::lines::raise;
 use box_instances::NoMemory;
-use fill_search::{NOTHING, Segment, Turned, clear, lowest, segment_at};
-use loose_lists::{at, put, zeros};
+use fill_search::{NOTHING, OrientedInstance, Segment, clear, lowest, segment_at};
+use lenient_lists::{at, put, zeros};
 use std::alloc::Global;
 
 /// How a search for places ended: with places, after all steps that it was given, or with nothing
@@ -114,7 +114,7 @@ impl GapSearch {
     }
 
     // The skyline of the floor alone.
-    fn begin(&mut self, turned: &Turned) {
+    fn begin(&mut self, turned: &OrientedInstance) {
         clear(&mut self.lies);
         let mut volume = 0u64;
         for v in 0..turned.count {
@@ -140,7 +140,13 @@ impl GapSearch {
     // Whether the next try of a level is this position of the order: the box isn't laid yet, no
     // equal one before it waits, and it fits the gap, all of its width or not as is asked.
     #[inline]
-    fn may_lay(&self, turned: &Turned, order: &[u32], twins: &[u32], try_at: Place) -> bool {
+    fn may_lay(
+        &self,
+        turned: &OrientedInstance,
+        order: &[u32],
+        twins: &[u32],
+        try_at: Place,
+    ) -> bool {
         let v = at(order, try_at.position);
         if at(&self.lies, v as usize) != 0 {
             return false;
@@ -158,7 +164,13 @@ impl GapSearch {
 
     // The next try of a level. First come the boxes that fill the gap, then the others, each in the
     // given order, and then the loss of the gap.
-    fn next_try(&mut self, turned: &Turned, order: &[u32], twins: &[u32], depth: usize) -> Try {
+    fn next_try(
+        &mut self,
+        turned: &OrientedInstance,
+        order: &[u32],
+        twins: &[u32],
+        depth: usize,
+    ) -> Try {
         let level = self.level(depth);
         let gap = self.segment(depth, level.gap);
         let room = turned.container(1).saturating_sub(gap.height);
@@ -228,7 +240,7 @@ impl GapSearch {
     }
 
     // Lays a box into the left corner of the gap.
-    fn lay(&mut self, turned: &Turned, depth: usize, v: u32) {
+    fn place_box(&mut self, turned: &OrientedInstance, depth: usize, v: u32) {
         let level = self.level(depth);
         let gap = self.segment(depth, level.gap);
         put(&mut self.lies, v as usize, 1);
@@ -239,7 +251,7 @@ impl GapSearch {
     }
 
     // Gives the gap up, as high as its lower neighbour, where so much is to spare.
-    fn lose(&mut self, turned: &Turned, depth: usize) -> bool {
+    fn lose(&mut self, turned: &OrientedInstance, depth: usize) -> bool {
         let level = self.level(depth);
         let gap = self.segment(depth, level.gap);
         let top = turned.container(1);
@@ -273,7 +285,13 @@ impl GapSearch {
     }
 
     /// Searches with an order of the boxes, for at most so many steps.
-    pub fn run(&mut self, turned: &Turned, order: &[u32], twins: &[u32], steps: u64) -> Ended {
+    pub fn run(
+        &mut self,
+        turned: &OrientedInstance,
+        order: &[u32],
+        twins: &[u32],
+        steps: u64,
+    ) -> Ended {
         self.begin(turned);
         let mut depth = 0usize;
         let mut left = turned.count;
@@ -283,7 +301,7 @@ impl GapSearch {
             }
             match self.next_try(turned, order, twins, depth) {
                 Try::Lay(v) => {
-                    self.lay(turned, depth, v);
+                    self.place_box(turned, depth, v);
                     depth = depth.saturating_add(1);
                     left = left.saturating_sub(1);
                 }

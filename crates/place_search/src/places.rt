@@ -3,10 +3,10 @@
 use crate::corners::CornerSearch;
 use crate::gaps::{Ended, GapSearch};
 use crate::luby::Luby;
-use crate::rounds::{find_twins, order_round};
+use crate::rounds::{find_equal_predecessors, order_round};
 use box_instances::{Instance, NoMemory};
-use fill_search::{Draws, Turned, turns_of};
-use loose_lists::zeros;
+use fill_search::{Draws, OrientedInstance, turns_of};
+use lenient_lists::zeros;
 use std::alloc::Global;
 
 // The steps of a round whose number of Luby's row is 1. With 20,000 steps in each direction 27 of
@@ -33,7 +33,13 @@ impl Searches {
         })
     }
 
-    fn run(&mut self, turned: &Turned, order: &[u32], twins: &[u32], steps: u64) -> Ended {
+    fn run(
+        &mut self,
+        turned: &OrientedInstance,
+        order: &[u32],
+        twins: &[u32],
+        steps: u64,
+    ) -> Ended {
         if self.flat {
             self.gaps.run(turned, order, twins, steps)
         } else {
@@ -80,7 +86,7 @@ impl Orders {
     fn run(
         &mut self,
         rank: &[u32],
-        turns: &[Turned],
+        turns: &[OrientedInstance],
         searches: &mut Searches,
         round: Round,
     ) -> (Ended, usize, Draws) {
@@ -90,7 +96,7 @@ impl Orders {
             let count = (turned.count as usize).min(self.order.len());
             let order = &mut self.order[..count];
             draws = order_round(turned, rank, round.number, draws, order);
-            find_twins(turned, order, &mut self.twins);
+            find_equal_predecessors(turned, order, &mut self.twins);
             match searches.run(turned, order, &self.twins, round.steps) {
                 Ended::Spent => {}
                 ended => return (ended, k, draws),
@@ -103,7 +109,7 @@ impl Orders {
 /// The memory of a search for places of all boxes of an instance.
 #[derive(Drop)]
 pub struct PlaceSearch {
-    turns: Vec<Turned>,
+    turns: Vec<OrientedInstance>,
     orders: Orders,
     searches: Searches,
 }

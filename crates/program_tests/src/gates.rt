@@ -116,7 +116,7 @@ impl Gate for Both {
 // split into the tasks 3 and 4, and task 3 is held until that worker has come back and explored
 // task 4.
 #[test]
-fn a_worker_that_found_no_task_comes_back(rt: HostRuntime) -> Result<(), Fail> {
+fn idle_worker_takes_a_later_task(rt: HostRuntime) -> Result<(), Fail> {
     let gate = Both {
         first: Holding::new(1, 2),
         second: Holding::new(3, 4),

@@ -57,7 +57,7 @@ fn made_instances_have_their_lines(rt: HostRuntime) -> Result<(), Fail> {
 }
 
 #[test]
-fn made_instances_are_the_same_by_all(rt: HostRuntime) -> Result<(), Fail> {
+fn make_is_identical_for_all_worker_counts(rt: HostRuntime) -> Result<(), Fail> {
     for number in ["0", "1", "2", "3", "4", "5", "6", "7"] {
         let words = ["make", "--number", number, "--budget", "500"];
         assert!(rt;

@@ -167,7 +167,7 @@ fn is_verified<R: AllocGlobal + Threads + Wait + Sync>(
 
 // Whichever packing or refutation is written, `check` verifies it, and workers have no part in it.
 #[test]
-fn what_is_proposed_is_verified(rt: HostRuntime) -> Result<(), Fail> {
+fn documents_with_proposals_verify(rt: HostRuntime) -> Result<(), Fail> {
     for row in &VERIFIED {
         assert!(rt; is_verified(&rt, row)?, "{}", row.4);
     }

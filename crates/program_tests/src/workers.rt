@@ -31,7 +31,7 @@ const ROWS: [(&[&str], &[u8], u8, &[&str]); 8] = [
 ];
 
 #[test]
-fn each_job_is_the_same_by_all(rt: HostRuntime) -> Result<(), Fail> {
+fn output_is_identical_for_all_worker_counts(rt: HostRuntime) -> Result<(), Fail> {
     for row in &ROWS {
         let (words, text, status, workers) = *row;
         assert!(rt; is_same_for_workers(&rt, words, text, status, workers)?);

@@ -14,7 +14,7 @@ mod writing;
 
 pub use conservative_scales::ScaleTuple;
 pub use copies::{copy_token, copy_tuple};
-pub use list::{TokenList, write_tokens_on};
+pub use list::{CompactTokens, write_tokens_on};
 pub use outcome::Outcome;
 pub use reading::{one_parameter, parameter_at, read_token, three_parameters, tuple_from};
 pub use token::Token;

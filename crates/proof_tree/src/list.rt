@@ -20,13 +20,13 @@ use std::marker::Model;
 /// splits and conflicts of small numbers. So a list holds each in five bytes, and those with larger
 /// numbers or another tuple beside these.
 #[derive(Drop)]
-pub struct TokenList {
+pub struct CompactTokens {
     shorts: Vec<Short>,
     // Those in whose places the others have `Wide`, in the same order.
     wides: Vec<Token>,
 }
 
-impl Model for TokenList {
+impl Model for CompactTokens {
     ghost use Rattle.std.specs.Prelude.{List, ◌≡◌, length, map};
     ghost use Rattle.packing_terms.specs.Tokens.{PlainToken};
     ghost use Rattle.proof_tree.specs.Plain.{plain_token};
@@ -113,40 +113,40 @@ fn tokens_of(alloc: Global, shorts: &[Short], wides: &[Token]) -> Result<Vec<Tok
     Ok(tokens)
 }
 
-impl TokenList {
+impl CompactTokens {
     /// A list of no token. It takes no memory before the first comes.
-    pub fn new(alloc: Global) -> TokenList
+    pub fn new(alloc: Global) -> CompactTokens
         ensures { result ≡ [] }
     {
-        TokenList {
+        CompactTokens {
             shorts: Vec::new(alloc),
             wides: Vec::new(alloc),
         }
     }
 
     /// A list of one token.
-    pub fn of_one(alloc: Global, token: Token) -> Result<TokenList, NoMemory>
+    pub fn of_one(alloc: Global, token: Token) -> Result<CompactTokens, NoMemory>
         ensures { IfOk result (λ l. l ≡ plain_token token ∷ []) }
     {
-        let mut list = TokenList::new(alloc);
+        let mut list = CompactTokens::new(alloc);
         list.push(token)?;
         Ok(list)
     }
 
     /// A list of copies of tokens.
-    pub fn from_slice(alloc: Global, tokens: &[Token]) -> Result<TokenList, NoMemory>
+    pub fn from_slice(alloc: Global, tokens: &[Token]) -> Result<CompactTokens, NoMemory>
         ensures { IfOk result (λ l. l ≡ map plain_token tokens.now) }
     {
-        let mut list = TokenList::new(alloc);
+        let mut list = CompactTokens::new(alloc);
         list.extend_from_slice(alloc, tokens)?;
         Ok(list)
     }
 
     /// The same list once more.
-    pub fn copy(&self, alloc: Global) -> Result<TokenList, NoMemory>
+    pub fn copy(&self, alloc: Global) -> Result<CompactTokens, NoMemory>
         ensures { IfOk result (λ l. l ≡ self.now) }
     {
-        let mut list = TokenList::new(alloc);
+        let mut list = CompactTokens::new(alloc);
         list.extend_from_list(alloc, self)?;
         Ok(list)
     }
@@ -235,7 +235,7 @@ impl TokenList {
     }
 
     /// Appends copies of the tokens of another list. Where memory is refused, this one is as before.
-    pub fn extend_from_list(&mut self, alloc: Global, other: &TokenList) -> Result<(), NoMemory>
+    pub fn extend_from_list(&mut self, alloc: Global, other: &CompactTokens) -> Result<(), NoMemory>
         ensures appends { OnOk result (self.new ≡ self.old ++ other.now) }
         ensures back { OnErr result (self.new ≡ self.old) }
     {
@@ -253,11 +253,11 @@ impl TokenList {
 
     /// Appends the tokens of another list, which is used up. Where memory is refused, this one is as
     /// before.
-    pub fn append(&mut self, other: TokenList) -> Result<(), NoMemory>
+    pub fn append(&mut self, other: CompactTokens) -> Result<(), NoMemory>
         ensures appends { OnOk result (self.new ≡ self.old ++ other) }
         ensures back { OnErr result (self.new ≡ self.old) }
     {
-        let TokenList { shorts, mut wides } = other;
+        let CompactTokens { shorts, mut wides } = other;
         let before = self.wides.len();
         let Ok(()) = self.wides.append(&mut wides) else {
             return Err(NoMemory);
@@ -280,12 +280,12 @@ impl TokenList {
     }
 
     /// The first `at` tokens, and the others. There are that many.
-    pub fn split_at(self, at: usize) -> Result<(TokenList, TokenList), NoMemory>
+    pub fn split_at(self, at: usize) -> Result<(CompactTokens, CompactTokens), NoMemory>
         requires { at ≤ length self }
         ensures first { IfOk result (λ r. r.0 ≡ take at self) }
         ensures rest { IfOk result (λ r. r.1 ≡ drop at self) }
     {
-        let TokenList {
+        let CompactTokens {
             mut shorts,
             mut wides,
         } = self;
@@ -296,8 +296,8 @@ impl TokenList {
         let Ok(more_shorts) = shorts.split_off(at) else {
             return Err(NoMemory);
         };
-        let first = TokenList { shorts, wides };
-        let rest = TokenList {
+        let first = CompactTokens { shorts, wides };
+        let rest = CompactTokens {
             shorts: more_shorts,
             wides: more_wides,
         };
@@ -307,7 +307,7 @@ impl TokenList {
 
 /// Writes the lines of tokens where no fault came before, and else does nothing and hands the fault
 /// on.
-pub fn write_tokens_on<K: Sink>(sink: &mut K, so_far: Written, tokens: &TokenList) -> Written
+pub fn write_tokens_on<K: Sink>(sink: &mut K, so_far: Written, tokens: &CompactTokens) -> Written
     ensures { Continues (K.written sink.old) (K.written sink.new) (K.faults sink.old)
         (K.faults sink.new) (token_text tokens.now) so_far result }
 {

@@ -3,7 +3,7 @@ use crate::instances::{are_same, four_in_a_row, is_packing, pinwheel, settings, 
 use box_instances::Instance;
 use class_search::decide;
 use proof_tree::Outcome;
-use proposed_answers::{Proposal, decide_behind, decide_proposed, is_refutation};
+use proposed_answers::{Proposal, decide_proposed, decide_with_proposal, is_refutation};
 use std::alloc::Global;
 use std::sync::Wait;
 use std::test::Fail;
@@ -80,7 +80,7 @@ fn behind<R: Threads + Wait + Sync>(
     instance: &Instance,
     settings: &Settings,
 ) -> Result<Outcome, Fail> {
-    Ok(decide_behind(rt, alloc, instance, Proposal::Nothing, settings, &NoGate)?)
+    Ok(decide_with_proposal(rt, alloc, instance, Proposal::Nothing, settings, &NoGate)?)
 }
 
 // Whether the budget of 0 is spent.
@@ -116,7 +116,7 @@ fn is_past<R: Threads + Wait + Sync>(
 }
 
 #[test]
-fn without_a_proposal_the_tree_is_past_its_budget(rt: HostRuntime) -> Result<(), Fail> {
+fn no_proposal_and_small_budget_is_undecided(rt: HostRuntime) -> Result<(), Fail> {
     let two = two_small(rt.alloc())?;
     assert!(rt; is_past(&rt, rt.alloc(), &two)?);
     Ok(())

@@ -5,7 +5,7 @@ use class_search::decide;
 use conflict_search::propose_refutation;
 use proof_tree::{Outcome, Token};
 use proposals::propose_places;
-use proposed_answers::{Proposal, decide_behind};
+use proposed_answers::{Proposal, decide_with_proposal};
 use std::alloc::Global;
 use std::sync::Wait;
 use std::test::Fail;
@@ -31,7 +31,7 @@ fn behind<R: Threads + Wait + Sync>(
     tokens: Vec<Token>,
 ) -> Result<Outcome, Fail> {
     let proposal = Proposal::Tokens(tokens);
-    Ok(decide_behind(rt, alloc, instance, proposal, &settings(1, BUDGET), &NoGate)?)
+    Ok(decide_with_proposal(rt, alloc, instance, proposal, &settings(1, BUDGET), &NoGate)?)
 }
 
 // Whether the described tree, which refutes the instance, answers behind these tokens.
@@ -68,7 +68,7 @@ fn behind_places<R: Threads + Wait + Sync>(
     }
     places[3] = places[3].wrapping_add(1);
     let proposal = Proposal::Places(places);
-    let found = decide_behind(rt, alloc, instance, proposal, &settings(1, BUDGET), &NoGate)?;
+    let found = decide_with_proposal(rt, alloc, instance, proposal, &settings(1, BUDGET), &NoGate)?;
     Ok(Some(found))
 }
 

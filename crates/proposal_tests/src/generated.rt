@@ -49,7 +49,7 @@ fn passes(alloc: Global, instance: &Instance) -> Result<bool, Fail> {
 }
 
 #[test]
-fn what_is_proposed_passes(rt: HostRuntime) -> Result<(), Fail> {
+fn proposals_pass_the_checkers(rt: HostRuntime) -> Result<(), Fail> {
     let alloc = rt.alloc();
     for number in 1..401u32 {
         assert!(rt; passes(alloc, &drawn(alloc, number)?)?);

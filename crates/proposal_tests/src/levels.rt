@@ -77,7 +77,7 @@ fn is_closed<R: Threads + Wait + Sync>(
 
 // The pinwheel has no waste at height 5. Its trees have branchings.
 #[test]
-fn a_strip_is_closed_by_proposals(rt: HostRuntime) -> Result<(), Fail> {
+fn proposals_prove_the_least_height(rt: HostRuntime) -> Result<(), Fail> {
     let instance = pinwheel(rt.alloc())?;
     assert!(rt; is_closed(&rt, rt.alloc(), &instance)?);
     Ok(())

@@ -9,9 +9,10 @@
 
 use box_instances::{Instance, NoMemory};
 use fill_search::{
-    Draws, Fills, Limits, Turned, all_turns_of, copy_into, side, start_orders, volumes, weight,
+    Draws, Fills, Limits, OrientedInstance, all_turns_of, copy_into, side, start_orders, volumes,
+    weight,
 };
-use loose_lists::{at, put, zeros};
+use lenient_lists::{at, put, zeros};
 use std::alloc::Global;
 
 // A window that all boxes stand in.
@@ -26,7 +27,7 @@ const WORSE_EVERY: u64 = 64;
 /// The memory of a search with a pool.
 #[derive(Drop)]
 pub struct Pool {
-    turns: Vec<Turned>,
+    turns: Vec<OrientedInstance>,
     fills: Fills,
     volumes: Vec<u64>,
     // What a box without a bin costs: its volume times its sides.

@@ -8,7 +8,7 @@ use Rattle.packing_terms.specs.Refutation.{Refutes}
 use Rattle.packing_terms.proofs.Internal.{internal_sides}
 use Rattle.packing_terms.proofs.Refuted.{none_fits}
 use Rattle.scale_terms.proofs.Excess.{excess_law}
-use Rattle.tree_terms.specs.Trees.{PlainOutcome, Decided, Past, Verdict, Yes, No, outcome, count_of, told}
+use Rattle.tree_terms.specs.Trees.{PlainOutcome, Decided, Past, Verdict, Yes, No, outcome, count_of, under_budget}
 use Rattle.tree_terms.specs.ClassTree.{class_tree}
 use Rattle.tree_terms.proofs.Told.{told_decided}
 use Rattle.check_terms.specs.declared.answers.PlaceVerdict.{PlaceVerdict}
@@ -26,7 +26,7 @@ use Rattle.conflict_search.specs.declared.proposal.Proposal.TheVariants.{Places 
 use Rattle.conflict_search.specs.declared.proposal.Proposal.TheVariants.{Tokens as ProposedTokens}
 use Rattle.conflict_search.specs.declared.proposal.Proposal.TheVariants.{Nothing as ProposedNothing}
 use Rattle.proposed_answers.specs.Behind.{PlainProposal, plain_proposal, Places, Tokens, Nothing, IsCounted}
-use Rattle.proposed_answers.specs.Behind.{is_refutation, by_places, by_tokens, answer_behind, tree_count, tree_told}
+use Rattle.proposed_answers.specs.Behind.{is_refutation, by_places, by_tokens, outcome_with_proposal, tree_count, tree_outcome}
 
 pub proposal_counted : (instance : PlainInstance) (p : Proposal) → IsSized instance p
     → IsCounted instance (plain_proposal p)
@@ -37,7 +37,7 @@ proposal_counted instance ProposedNothing h = tt
 module _ (instance : PlainInstance) where
   -- a proposal that passes its test is right, and so is what it stands before
   pub behind_right : (p : PlainProposal) (other : PlainOutcome) → IsCounted instance p → IsRight instance [] other
-      → IsRight instance [] (answer_behind instance p other)
+      → IsRight instance [] (outcome_with_proposal instance p other)
   behind_right (Places places) other counted right = go (place_verdict instance places) refl
     where
       go : (v : PlaceVerdict) → place_verdict instance places ≡ v → IsRight instance [] (by_places v places other)
@@ -52,7 +52,7 @@ module _ (instance : PlainInstance) where
   behind_right Nothing other counted right = right
 
   -- it is past only where the other outcome is
-  pub behind_past : (p : PlainProposal) (other : PlainOutcome) → answer_behind instance p other ≡ Past → other ≡ Past
+  pub behind_past : (p : PlainProposal) (other : PlainOutcome) → outcome_with_proposal instance p other ≡ Past → other ≡ Past
   behind_past (Places places) other e = go (place_verdict instance places) e
     where
       go : (v : PlaceVerdict) → by_places v places other ≡ Past → other ≡ Past
@@ -68,7 +68,7 @@ module _ (instance : PlainInstance) where
 
   -- it is yes or no where the other outcome is
   pub behind_decided : (p : PlainProposal) (other : PlainOutcome) → IsYesOrNo other
-      → IsYesOrNo (answer_behind instance p other)
+      → IsYesOrNo (outcome_with_proposal instance p other)
   behind_decided (Places places) other h = go (place_verdict instance places)
     where
       go : (v : PlaceVerdict) → IsYesOrNo (by_places v places other)
@@ -84,7 +84,7 @@ module _ (instance : PlainInstance) where
 
   -- where nothing stands behind it, it is itself or past
   pub behind_shown : (p : PlainProposal) (v : Verdict) (other : PlainOutcome)
-      → answer_behind instance p Past ≡ Decided v → Decided v ≡ answer_behind instance p other
+      → outcome_with_proposal instance p Past ≡ Decided v → Decided v ≡ outcome_with_proposal instance p other
   behind_shown (Places places) v other e = go (place_verdict instance places) e
     where
       go : (x : PlaceVerdict) → by_places x places Past ≡ Decided v → Decided v ≡ by_places x places other
@@ -99,8 +99,8 @@ module _ (instance : PlainInstance) where
   behind_shown Nothing v other e = absurd (cc (e))
 
   -- and where it is past, the other outcome comes
-  pub behind_other : (p : PlainProposal) (other : PlainOutcome) → answer_behind instance p Past ≡ Past
-      → other ≡ answer_behind instance p other
+  pub behind_other : (p : PlainProposal) (other : PlainOutcome) → outcome_with_proposal instance p Past ≡ Past
+      → other ≡ outcome_with_proposal instance p other
   behind_other (Places places) other e = go (place_verdict instance places) e
     where
       go : (x : PlaceVerdict) → by_places x places Past ≡ Past → other ≡ by_places x places other
@@ -123,7 +123,7 @@ tokens_right instance tokens all b e f g =
     ((inner_fed instance [] (map plain_token all)).0 (sym f ∙ g))
 
 -- what is told of a tree is past only where the tree has more branchings than the budget
-pub told_more : (budget : ℕ) (v : Verdict) → told budget v ≡ Past → budget < count_of v
+pub told_more : (budget : ℕ) (v : Verdict) → under_budget budget v ≡ Past → budget < count_of v
 told_more budget v e = go (ltb budget (count_of v)) refl e
   where
     go : (b : Bool) → ltb budget (count_of v) ≡ b → (if b then Past else Decided v) ≡ Past → budget < count_of v
@@ -147,15 +147,15 @@ told_within instance budget scales Past past l = let more = past refl in absurd 
 
 module _ (instance : PlainInstance) (limits : IsInternalInstance instance) (budget : ℕ) (scales : Bool)
     (p : PlainProposal) (r : PlainOutcome)
-    (is : r ≡ answer_behind instance p (tree_told instance budget scales)) where
+    (is : r ≡ outcome_with_proposal instance p (tree_outcome instance budget scales)) where
   pub outcome_right : IsCounted instance p → IsRight instance [] r
-  outcome_right counted = rw is (behind_right instance p (tree_told instance budget scales) counted
+  outcome_right counted = rw is (behind_right instance p (tree_outcome instance budget scales) counted
       (class_right instance limits scales budget _ refl))
 
   pub outcome_past : r ≡ Past → budget < tree_count instance scales
   outcome_past e = told_more budget (outcome (class_tree instance [] scales))
-      (behind_past instance p (tree_told instance budget scales) (sym is ∙ e))
+      (behind_past instance p (tree_outcome instance budget scales) (sym is ∙ e))
 
   pub outcome_within : tree_count instance scales ≤ budget → IsYesOrNo r
-  outcome_within l = rw (is) (behind_decided instance p (tree_told instance budget scales)
+  outcome_within l = rw (is) (behind_decided instance p (tree_outcome instance budget scales)
       (subst IsYesOrNo (sym (told_decided budget (outcome (class_tree instance [] scales)) l)) tt))

@@ -18,13 +18,13 @@ use Rattle.tree_terms.specs.Levels.{PlainReached, level_by, bin_run}
 use Rattle.tree_terms.specs.RunEnds.{bin_answer}
 use Rattle.tree_terms.proofs.SpentRuns.{bins_end}
 use Rattle.text_terms.specs.declared.settings.Settings.{Settings}
-use Rattle.level_bounds.specs.Bounds.{PlainBounds, first_bounds, afresh, IsNarrow, IsClosed, AreBounds}
+use Rattle.level_bounds.specs.Bounds.{PlainBounds, first_bounds, without_attempts, HasNoLevelLeft, IsClosed, AreBounds}
 use Rattle.level_bounds.proofs.Narrowing.{are_first, closed}
 use Rattle.bin_knapsack.specs.declared.bins.Bins.{Bins}
 use Rattle.bin_knapsack.specs.declared.bins.Bins.TheVariants.{Least, Between, NoneFits}
 use Rattle.bin_knapsack.specs.BinAnswers.{IsAnswer, AreTrueBins, IsCertifiedBetween}
 use Rattle.proposed_answers.specs.Counts.{bins_count, IsPastCount, IsBinsAnswer, AreBinBounds, AreFirstBounds, TellsBins}
-use Rattle.proposed_answers.specs.Counts.{AreNamedBins, AreLimitedBins, IsPastBeside}
+use Rattle.proposed_answers.specs.Counts.{AreNamedBins, AreLimitedBins, AreNeighboursPastBudget}
 
 -- what is told of the tree for a number of bins is the answer there
 pub bins_answered : (instance : PlainInstance) (settings : Settings) (k : ℕ)
@@ -71,7 +71,7 @@ between_bounds instance refuted bins tokens numbers t most =
 -- the same two numbers, of which no other is known to be past the budget
 pub bounds_afresh : (instance : PlainInstance) (Spent : ℕ → Type 0) (settings : Settings) (b : PlainBounds)
     → AreBounds (AreBinNumbers instance) (IsBinRefutation instance) Spent (box_count instance) b
-    → AreBinBounds instance settings (afresh b)
+    → AreBinBounds instance settings (without_attempts b)
 bounds_afresh instance Spent settings b h =
     are_first (AreBinNumbers instance) (IsBinRefutation instance) (IsPastCount instance settings) (box_count instance)
     b.refuted b.placed b.tokens b.numbers h.order h.within h.denied h.shown
@@ -79,7 +79,7 @@ bounds_afresh instance Spent settings b h =
 -- ---- what the bounds that were reached tell
 
 module _ (instance : PlainInstance) (limits : IsInternalInstance instance) (settings : Settings) (b : PlainBounds)
-    (are : AreBinBounds instance settings b) (narrow : IsNarrow b) where
+    (are : AreBinBounds instance settings b) (narrow : HasNoLevelLeft b) where
   refuted_fits : ¬ FitsInBins instance b.refuted
   refuted_fits = none_fits_bins excess_law instance (internal_sides instance limits) b.refuted b.tokens are.denied
 
@@ -126,7 +126,7 @@ module _ (instance : PlainInstance) (limits : IsInternalInstance instance) (sett
       (omega (arith, e, o), omega (arith, e, w))
   bounds_limited (NoneFits v i) t = absurd t
 
-  pub bounds_past : (s : Bins) → TellsBins b s → IsPastBeside instance settings.budget settings.scales s
+  pub bounds_past : (s : Bins) → TellsBins b s → AreNeighboursPastBudget instance settings.budget settings.scales s
   bounds_past (Least bins numbers tokens) t = tt
   bounds_past (Between refuted tokens bins numbers) t =
       go (closed (AreBinNumbers instance) (IsBinRefutation instance) (IsPastCount instance settings)
@@ -144,7 +144,7 @@ module _ (instance : PlainInstance) (limits : IsInternalInstance instance) (sett
 
 -- trees with more branchings than a budget have more than a smaller one
 pub past_within : (instance : PlainInstance) (budget more : ℕ) (scales : Bool) → budget ≤ more → (s : Bins)
-    → IsPastBeside instance more scales s → IsPastBeside instance budget scales s
+    → AreNeighboursPastBudget instance more scales s → AreNeighboursPastBudget instance budget scales s
 past_within instance budget more scales h (Least bins numbers tokens) p = tt
 past_within instance budget more scales h (Between refuted tokens bins numbers) p =
     let (low, high) = p in (omega (arith, h, low), omega (arith, h, high))

@@ -21,7 +21,7 @@ use Rattle.tree_terms.proofs.OuterDecisions.{choice_tree_right}
 use Rattle.text_terms.specs.declared.settings.Settings.{Settings}
 use Rattle.level_search.specs.declared.level.Level.{Level}
 use Rattle.level_search.specs.Runs.{plain_level}
-use Rattle.level_bounds.specs.Bounds.{PlainBounds, first_bounds, afresh, narrowed, asked_left, IsAsked, IsNarrow}
+use Rattle.level_bounds.specs.Bounds.{PlainBounds, first_bounds, without_attempts, narrowed, levels_left, IsAsked, HasNoLevelLeft}
 use Rattle.level_bounds.specs.Bounds.{IsClosed, AreBounds}
 use Rattle.level_bounds.proofs.Narrowing.{are_first, step, closed}
 use Rattle.bin_knapsack.specs.declared.choice.Choice.{Choice}
@@ -30,7 +30,7 @@ use Rattle.bin_knapsack.specs.Choices.{IsTrueChoice}
 use Rattle.proposed_answers.specs.Shares.{level_share}
 use Rattle.proposed_answers.specs.Values.{top_value, value_at, value_count, ShowsLevel, RefutesLevel, IsPastLevel}
 use Rattle.proposed_answers.specs.Values.{IsLevelAnswer, AreValueBounds, AreFirstBounds, TellsValues, IsLimitedChoice}
-use Rattle.proposed_answers.specs.Values.{IsPastBeside}
+use Rattle.proposed_answers.specs.Values.{AreNeighboursPastBudget}
 
 -- the outcome of the tree for a value, with at least the share of the budget, is the answer there
 pub value_answered : (instance : PlainInstance) → IsInternalInstance instance → (settings : Settings) (level budget : ℕ)
@@ -67,12 +67,12 @@ pub asked_step : (instance : PlainInstance) (settings : Settings) (b : PlainBoun
     → AreValueBounds instance settings b
     → (level : ℕ) → IsAsked b level → (answer : PlainLevel) → IsLevelAnswer instance settings level answer
     → (after : PlainBounds) → after ≡ narrowed b level answer → AreValueBounds instance settings after
-    × (asked_left after < asked_left b)
+    × (levels_left after < levels_left b)
 asked_step instance settings b are level asked answer is after e =
     let s = step (ShowsLevel instance) (RefutesLevel instance) (IsPastLevel instance settings) (top_value instance) b
     are level answer asked is in (
       subst (λ (x : PlainBounds). AreValueBounds instance settings x) (sym e) s.are,
-      subst (λ (x : PlainBounds). asked_left x < asked_left b) (sym e) s.less,
+      subst (λ (x : PlainBounds). levels_left x < levels_left b) (sym e) s.less,
     )
 
 -- ---- bounds at the beginning
@@ -100,14 +100,14 @@ module _ (instance : PlainInstance) (limits : IsInternalInstance instance) (sett
 -- the same two levels, of which no other is known to be past the budget
 pub bounds_forgotten : (instance : PlainInstance) (Spent : ℕ → Type 0) (b : PlainBounds)
     → AreBounds (ShowsLevel instance) (RefutesLevel instance) Spent (top_value instance) b
-    → AreFirstBounds instance (afresh b)
+    → AreFirstBounds instance (without_attempts b)
 bounds_forgotten instance Spent b h =
     are_first (ShowsLevel instance) (RefutesLevel instance) (λ level. Unit {0}) (top_value instance)
     b.refuted b.placed b.tokens b.numbers h.order h.within h.denied h.shown
 
 pub bounds_afresh : (instance : PlainInstance) (Spent : ℕ → Type 0) (settings : Settings) (b : PlainBounds)
     → AreBounds (ShowsLevel instance) (RefutesLevel instance) Spent (top_value instance) b
-    → AreValueBounds instance settings (afresh b)
+    → AreValueBounds instance settings (without_attempts b)
 bounds_afresh instance Spent settings b h =
     are_first (ShowsLevel instance) (RefutesLevel instance) (IsPastLevel instance settings) (top_value instance)
     b.refuted b.placed b.tokens b.numbers h.order h.within h.denied h.shown
@@ -115,7 +115,7 @@ bounds_afresh instance Spent settings b h =
 -- ---- what the bounds that were reached tell
 
 module _ (instance : PlainInstance) (limits : IsInternalInstance instance) (settings : Settings) (b : PlainBounds)
-    (are : AreValueBounds instance settings b) (narrow : IsNarrow b) where
+    (are : AreValueBounds instance settings b) (narrow : HasNoLevelLeft b) where
   refuted_unreached : ¬ ReachesValue instance (value_at instance b.refuted)
   refuted_unreached = none_reaches excess_law instance (internal_sides instance limits) (value_at instance b.refuted)
       b.tokens are.denied
@@ -156,7 +156,7 @@ module _ (instance : PlainInstance) (limits : IsInternalInstance instance) (sett
       omega (arith, o, w, e)
   bounds_limited (Between placed numbers refuted tokens) t = let f = t.refuted_is in omega (arith, f)
 
-  pub bounds_past : (c : Choice) → TellsValues instance b c → IsPastBeside instance settings.budget settings.scales c
+  pub bounds_past : (c : Choice) → TellsValues instance b c → AreNeighboursPastBudget instance settings.budget settings.scales c
   bounds_past (Greatest value numbers tokens) t = tt
   bounds_past (Between placed numbers refuted tokens) t =
       go (closed (ShowsLevel instance) (RefutesLevel instance) (IsPastLevel instance settings) (top_value instance)

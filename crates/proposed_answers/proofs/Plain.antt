@@ -15,13 +15,13 @@ use Rattle.check_terms.specs.declared.answers.PlaceVerdict.TheVariants.{Good, Ou
 use Rattle.check_terms.specs.Placing.{place_verdict}
 use Rattle.rule_terms.specs.Rounds.{closure, has_empty_mask}
 use Rattle.tree_terms.specs.Trees.{SearchTree, Verdict, Yes, No, join, join_from, outcome, PlainOutcome, Decided, Past}
-use Rattle.tree_terms.specs.Trees.{told, count_of}
+use Rattle.tree_terms.specs.Trees.{under_budget, count_of}
 use Rattle.tree_terms.specs.InnerTree.{SplitNode, chosen_split, split_at, is_unsettled, node_of, node_tree, tree_below}
-use Rattle.tree_terms.specs.ClassTree.{first_too_large_box, scales_after, root_of, closes_in_conflict, class_tree}
+use Rattle.tree_terms.specs.ClassTree.{first_too_large_box, scales_after, root_of, has_closure_conflict, class_tree}
 use Rattle.proof_tree.specs.declared.token.Token.{Token}
 use Rattle.proof_tree.specs.Plain.{plain_token}
 use Rattle.proposed_answers.specs.Behind.{PlainProposal, Places, Tokens, Nothing, is_refutation, by_places, by_tokens}
-use Rattle.proposed_answers.specs.Behind.{answer_behind, tree_told, is_scale_line, has_scale_line, IsWithoutScales}
+use Rattle.proposed_answers.specs.Behind.{outcome_with_proposal, tree_outcome, is_scale_line, has_scale_line, IsWithoutScales}
 use Rattle.proposed_answers.specs.Behind.{IsPlainProposal}
 
 -- ---- verdicts
@@ -109,11 +109,11 @@ module _ (instance : PlainInstance) where
   root_without None false (Some fs) tree none h = absurd (cc (none))
 
   class_without : Without (outcome (class_tree instance [] false))
-  class_without = root_without (first_too_large_box instance) (closes_in_conflict instance [])
-      (scales_after instance false (closes_in_conflict instance [])) (tree_below instance [])
-      (none_after (closes_in_conflict instance [])) (node_without _ [])
+  class_without = root_without (first_too_large_box instance) (has_closure_conflict instance [])
+      (scales_after instance false (has_closure_conflict instance [])) (tree_below instance [])
+      (none_after (has_closure_conflict instance [])) (node_without _ [])
 
-  told_without : (budget : ℕ) (v : Verdict) → Without v → IsWithoutScales (told budget v)
+  told_without : (budget : ℕ) (v : Verdict) → Without v → IsWithoutScales (under_budget budget v)
   told_without budget v h = go (ltb budget (count_of v))
     where
       go : (b : Bool) → IsWithoutScales (if b then Past else Decided v)
@@ -123,7 +123,7 @@ module _ (instance : PlainInstance) where
   -- ---- with a proposal
 
   pub behind_without : (p : PlainProposal) (other : PlainOutcome) → IsPlainProposal p → IsWithoutScales other
-      → IsWithoutScales (answer_behind instance p other)
+      → IsWithoutScales (outcome_with_proposal instance p other)
   behind_without (Places places) other plain h = go (place_verdict instance places)
     where
       go : (v : PlaceVerdict) → IsWithoutScales (by_places v places other)
@@ -138,8 +138,8 @@ module _ (instance : PlainInstance) where
   behind_without Nothing other plain h = h
 
   pub outcome_without : (budget : ℕ) (scales : Bool) (p : PlainProposal) (r : PlainOutcome)
-      → r ≡ answer_behind instance p (tree_told instance budget scales) → scales ≡ false → IsPlainProposal p
+      → r ≡ outcome_with_proposal instance p (tree_outcome instance budget scales) → scales ≡ false → IsPlainProposal p
       → IsWithoutScales r
   outcome_without budget scales p r is off plain =
-      rw (is, off) (behind_without p (tree_told instance budget false) plain
+      rw (is, off) (behind_without p (tree_outcome instance budget false) plain
       (told_without budget (outcome (class_tree instance [] false)) class_without))

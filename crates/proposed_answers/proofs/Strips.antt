@@ -2,7 +2,7 @@
 use Rattle.std.proofs.Common.{◌≡◌, ℕ, suc, pred, ◌-◌, ◌<◌, ◌≤◌, inl, inr, refl, sym, ap, subst, arith, Bool, List, []}
 use Rattle.packing_terms.specs.Packing.{PlainInstance, Fits}
 use Rattle.packing_terms.specs.Goals.{with_last_side, HasTooWideBox}
-use Rattle.packing_terms.specs.Limits.{IsInternalInstance, most_height}
+use Rattle.packing_terms.specs.Limits.{IsInternalInstance, max_height}
 use Rattle.packing_terms.specs.Tokens.{PlainToken}
 use Rattle.packing_terms.proofs.Internal.{internal_sides}
 use Rattle.packing_terms.proofs.Neighbours.{fits_higher, least_height}
@@ -14,7 +14,7 @@ use Rattle.tree_terms.proofs.Optima.{stack_small, internal_at}
 use Rattle.tree_terms.proofs.SpentRuns.{height_end}
 use Rattle.text_terms.specs.declared.settings.Settings.{Settings}
 use Rattle.class_search.specs.Right.{IsRight}
-use Rattle.level_bounds.specs.Bounds.{PlainBounds, first_bounds, afresh, IsNarrow, IsClosed}
+use Rattle.level_bounds.specs.Bounds.{PlainBounds, first_bounds, without_attempts, HasNoLevelLeft, IsClosed}
 use Rattle.level_bounds.proofs.Narrowing.{are_first, closed}
 use Rattle.strip_solver.specs.declared.strip.Strip.{Strip}
 use Rattle.strip_solver.specs.declared.strip.Strip.TheVariants.{Least, Between, NoneFits}
@@ -25,7 +25,7 @@ use Rattle.proposed_answers.specs.declared.effort.Effort.{Effort}
 use Rattle.proposed_answers.specs.declared.effort.Effort.TheVariants.{Root, Share}
 use Rattle.proposed_answers.specs.Heights.{IsPackedAt, IsRefutedAt, IsPastTree, IsPastHeight, IsHeightAnswer}
 use Rattle.proposed_answers.specs.Heights.{AreHeightBounds}
-use Rattle.proposed_answers.specs.Heights.{TellsHeights, IsNamedStrip, IsLimitedStrip, IsPastBeside, height_count}
+use Rattle.proposed_answers.specs.Heights.{TellsHeights, IsNamedStrip, IsLimitedStrip, AreNeighboursPastBudget, height_count}
 
 -- a right outcome is the answer at a height
 pub height_answered : (instance : PlainInstance) (settings : Settings) (effort : Effort) (h : ℕ) (o : PlainOutcome)
@@ -50,7 +50,7 @@ module _ (instance : PlainInstance) (limits : IsInternalInstance instance) (budg
   run_named (Between refuted tokens height places) a = a.0
   run_named (NoneFits v i) a = a
 
-  run_small : (height : ℕ) → (height_run instance budget scales).placed ≡ height → height ≤ most_height
+  run_small : (height : ℕ) → (height_run instance budget scales).placed ≡ height → height ≤ max_height
   run_small height e = let h = (height_end instance limits budget scales).high in let s = stack_small instance limits in
       omega (arith, e, h, s)
 
@@ -62,24 +62,24 @@ module _ (instance : PlainInstance) (limits : IsInternalInstance instance) (budg
 -- bounds by two heights with both certificates
 pub between_bounds : (instance : PlainInstance) (settings : Settings) (refuted height : ℕ) (tokens : List PlainToken)
     (places : List ℕ)
-    → IsCertifiedBetween [] instance refuted tokens height places → height ≤ most_height
+    → IsCertifiedBetween [] instance refuted tokens height places → height ≤ max_height
     → AreHeightBounds instance settings Root (first_bounds refuted tokens height places)
 between_bounds instance settings refuted height tokens places t most =
-    are_first (IsPackedAt instance) (IsRefutedAt instance) (IsPastHeight instance settings Root) most_height refuted
+    are_first (IsPackedAt instance) (IsRefutedAt instance) (IsPastHeight instance settings Root) max_height refuted
     height tokens places t.order most t.refutes t.packed
 
 -- the same two heights, of which no other is known to be past the budget
 pub bounds_afresh : (instance : PlainInstance) (settings : Settings) (e f : Effort) (b : PlainBounds)
     → AreHeightBounds instance settings e b
-    → AreHeightBounds instance settings f (afresh b)
+    → AreHeightBounds instance settings f (without_attempts b)
 bounds_afresh instance settings e f b h =
-    are_first (IsPackedAt instance) (IsRefutedAt instance) (IsPastHeight instance settings f) most_height b.refuted
+    are_first (IsPackedAt instance) (IsRefutedAt instance) (IsPastHeight instance settings f) max_height b.refuted
     b.placed b.tokens b.numbers h.order h.within h.denied h.shown
 
 -- ---- what the bounds that were reached tell
 
 module _ (instance : PlainInstance) (limits : IsInternalInstance instance) (settings : Settings) (b : PlainBounds)
-    (are : AreHeightBounds instance settings Share b) (narrow : IsNarrow b) where
+    (are : AreHeightBounds instance settings Share b) (narrow : HasNoLevelLeft b) where
   refuted_fits : ¬ Fits (with_last_side instance b.refuted)
   refuted_fits =
       let o = are.order in
@@ -121,10 +121,10 @@ module _ (instance : PlainInstance) (limits : IsInternalInstance instance) (sett
       omega (arith, e, w)
   bounds_limited (NoneFits v i) t = absurd t
 
-  pub bounds_past : (s : Strip) → TellsHeights b s → IsPastBeside instance settings.budget settings.scales s
+  pub bounds_past : (s : Strip) → TellsHeights b s → AreNeighboursPastBudget instance settings.budget settings.scales s
   bounds_past (Least height places tokens) t = tt
   bounds_past (Between refuted tokens height places) t =
-      go (closed (IsPackedAt instance) (IsRefutedAt instance) (IsPastHeight instance settings Share) most_height
+      go (closed (IsPackedAt instance) (IsRefutedAt instance) (IsPastHeight instance settings Share) max_height
       b are narrow)
     where
       go : IsClosed (IsPastHeight instance settings Share) b

@@ -1,7 +1,7 @@
 -- One more than all boxes are worth is a value that a document can say.
 use Rattle.std.proofs.Common.{ℕ, zero, suc, ◌≡◌, ◌+◌, ◌*◌, ◌≤◌, arith, refl, subst, get_or}
 use Rattle.packing_terms.specs.Packing.{PlainInstance, no_box, box_count}
-use Rattle.packing_terms.specs.Limits.{IsInternalInstance, most_boxes}
+use Rattle.packing_terms.specs.Limits.{IsInternalInstance, max_boxes}
 use Rattle.bin_knapsack.proofs.Summing.{IsSum, sum_next}
 use Rattle.proposed_answers.specs.Values.{top_value}
 
@@ -18,7 +18,7 @@ module _ (instance : PlainInstance) (limits : IsInternalInstance instance) where
         subst (λ (n : ℕ). IsSum instance n (below_v.0 + (get_or instance.boxes v no_box).value)) e next,
       )
 
-  pub top_small : top_value instance ≤ 1000000000 * most_boxes + 1
+  pub top_small : top_value instance ≤ 1000000000 * max_boxes + 1
   top_small =
       let all = sum_to (box_count instance) (omega arith) in
       let is = (all.1).is in

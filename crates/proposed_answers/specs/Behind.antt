@@ -5,7 +5,7 @@ use Rattle.std.specs.List.{list_any}
 use Rattle.packing_terms.specs.Packing.{PlainInstance, dims, box_count}
 use Rattle.packing_terms.specs.Tokens.{PlainToken}
 use Rattle.packing_terms.specs.Tokens.PlainToken.{Scales, GlobalScales}
-use Rattle.tree_terms.specs.Trees.{PlainOutcome, Decided, Past, Yes, No, outcome, told, count_of}
+use Rattle.tree_terms.specs.Trees.{PlainOutcome, Decided, Past, Yes, No, outcome, under_budget, count_of}
 use Rattle.tree_terms.specs.ClassTree.{class_tree}
 use Rattle.check_terms.specs.declared.answers.PlaceVerdict.{PlaceVerdict}
 use Rattle.check_terms.specs.declared.answers.PlaceVerdict.TheVariants.{Good, Outside, Overlap}
@@ -50,17 +50,17 @@ by_tokens true tokens other = Decided (No tokens (length tokens / 2))
 by_tokens false tokens other = other
 
 -- the proposal where it passes its test, and else the other outcome
-abbrev pub answer_behind : PlainInstance → PlainProposal → PlainOutcome → PlainOutcome
-answer_behind instance (Places places) other = by_places (place_verdict instance places) places other
-answer_behind instance (Tokens tokens) other = by_tokens (is_refutation instance tokens) tokens other
-answer_behind instance Nothing other = other
+abbrev pub outcome_with_proposal : PlainInstance → PlainProposal → PlainOutcome → PlainOutcome
+outcome_with_proposal instance (Places places) other = by_places (place_verdict instance places) places other
+outcome_with_proposal instance (Tokens tokens) other = by_tokens (is_refutation instance tokens) tokens other
+outcome_with_proposal instance Nothing other = other
 
 -- the count of branchings of the described tree, and what is told of it under a budget
 abbrev pub tree_count : PlainInstance → Bool → ℕ
 tree_count instance scales = count_of (outcome (class_tree instance [] scales))
 
-abbrev pub tree_told : PlainInstance → ℕ → Bool → PlainOutcome
-tree_told instance budget scales = told budget (outcome (class_tree instance [] scales))
+abbrev pub tree_outcome : PlainInstance → ℕ → Bool → PlainOutcome
+tree_outcome instance budget scales = under_budget budget (outcome (class_tree instance [] scales))
 
 -- whether a token compares the images of scale functions
 abbrev pub is_scale_line : PlainToken → Bool

@@ -73,8 +73,8 @@ AreLimitedBins instance (NoneFits v i) = Unit {0}
 
 -- `Between` only where the bin trees of the number above the refuted one and of the number below the
 -- placed one have more branchings than the budget
-abbrev pub IsPastBeside : PlainInstance → ℕ → Bool → Bins → Type 0
-IsPastBeside instance budget scales (Least bins numbers tokens) = Unit {0}
-IsPastBeside instance budget scales (Between refuted tokens bins numbers) =
+abbrev pub AreNeighboursPastBudget : PlainInstance → ℕ → Bool → Bins → Type 0
+AreNeighboursPastBudget instance budget scales (Least bins numbers tokens) = Unit {0}
+AreNeighboursPastBudget instance budget scales (Between refuted tokens bins numbers) =
     (budget < bins_count instance scales (suc refuted)) × (budget < bins_count instance scales (pred bins))
-IsPastBeside instance budget scales (NoneFits v i) = Unit {0}
+AreNeighboursPastBudget instance budget scales (NoneFits v i) = Unit {0}

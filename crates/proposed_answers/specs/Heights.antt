@@ -2,7 +2,7 @@
 use Rattle.std.specs.Prelude.{ℕ, suc, pred, ◌<◌, ◌≤◌, ◌≡◌, Bool, List, []}
 use Rattle.packing_terms.specs.Packing.{PlainInstance, IsPacking}
 use Rattle.packing_terms.specs.Goals.{with_last_side, HasTooWideBox}
-use Rattle.packing_terms.specs.Limits.{most_height}
+use Rattle.packing_terms.specs.Limits.{max_height}
 use Rattle.packing_terms.specs.Refutation.{Refutes}
 use Rattle.packing_terms.specs.TooLarge.{IsFirstTooWide}
 use Rattle.packing_terms.specs.Tokens.{PlainToken}
@@ -45,7 +45,7 @@ IsHeightAnswer instance settings effort =
 -- bounds of the least height
 abbrev pub AreHeightBounds : PlainInstance → Settings → Effort → PlainBounds → Type 0
 AreHeightBounds instance settings effort =
-    AreBounds (IsPackedAt instance) (IsRefutedAt instance) (IsPastHeight instance settings effort) most_height
+    AreBounds (IsPackedAt instance) (IsRefutedAt instance) (IsPastHeight instance settings effort) max_height
 
 -- the answer tells these bounds
 pub record TellsLeast (b : PlainBounds) (height : ℕ) (places : List ℕ) (tokens : List PlainToken) : Type 0 where
@@ -76,15 +76,15 @@ IsNamedStrip instance (NoneFits v i) = IsFirstTooWide instance v i
 
 -- heights are at most the greatest that a container may have
 abbrev pub IsLimitedStrip : Strip → Type 0
-IsLimitedStrip (Least height places tokens) = height ≤ most_height
-IsLimitedStrip (Between refuted tokens height places) = height ≤ most_height
+IsLimitedStrip (Least height places tokens) = height ≤ max_height
+IsLimitedStrip (Between refuted tokens height places) = height ≤ max_height
 IsLimitedStrip (NoneFits v i) = Unit {0}
 
 -- `Between` only where the class trees of the height above the refuted one and of the height below the
 -- placed one have more branchings than the share of the budget
-abbrev pub IsPastBeside : PlainInstance → ℕ → Bool → Strip → Type 0
-IsPastBeside instance budget scales (Least height places tokens) = Unit {0}
-IsPastBeside instance budget scales (Between refuted tokens height places) =
+abbrev pub AreNeighboursPastBudget : PlainInstance → ℕ → Bool → Strip → Type 0
+AreNeighboursPastBudget instance budget scales (Least height places tokens) = Unit {0}
+AreNeighboursPastBudget instance budget scales (Between refuted tokens height places) =
     (level_share budget < height_count instance scales (suc refuted))
     × (level_share budget < height_count instance scales (pred height))
-IsPastBeside instance budget scales (NoneFits v i) = Unit {0}
+AreNeighboursPastBudget instance budget scales (NoneFits v i) = Unit {0}

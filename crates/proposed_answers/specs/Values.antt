@@ -93,8 +93,8 @@ IsLimitedChoice instance (Between placed numbers refuted tokens) = refuted ≤ t
 
 -- `Between` only where the choice trees of the value above the placed one and of the value below the
 -- refuted one have more branchings than the share of the budget
-abbrev pub IsPastBeside : PlainInstance → ℕ → Bool → Choice → Type 0
-IsPastBeside instance budget scales (Greatest value numbers tokens) = Unit {0}
-IsPastBeside instance budget scales (Between placed numbers refuted tokens) =
+abbrev pub AreNeighboursPastBudget : PlainInstance → ℕ → Bool → Choice → Type 0
+AreNeighboursPastBudget instance budget scales (Greatest value numbers tokens) = Unit {0}
+AreNeighboursPastBudget instance budget scales (Between placed numbers refuted tokens) =
     (level_share budget < value_count instance scales (suc placed))
     × (level_share budget < value_count instance scales (pred refuted))

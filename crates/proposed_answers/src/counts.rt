@@ -1,7 +1,7 @@
 //! Numbers of bins between two others, each decided by its bin tree.
 ghost use Rattle.std.specs.Prelude.{◌≡◌, IfOk};
 ghost use Rattle.packing_terms.specs.Scales.{SidesFit};
-ghost use Rattle.level_bounds.specs.Bounds.{plain_bounds, IsNarrow};
+ghost use Rattle.level_bounds.specs.Bounds.{plain_bounds, HasNoLevelLeft};
 ghost use Rattle.proposed_answers.specs.Counts.{AreBinBounds};
 
 use bin_knapsack::decide_bins;
@@ -30,7 +30,7 @@ pub(crate) fn narrow_bins<R: Threads + Wait + Sync, G: Gate + Sync>(
         ≡ record { instance = instance.now; scales = settings.now.scales } }
     ensures same { search.new ≡ search.old }
     ensures kept { IfOk result (λ b. AreBinBounds instance.now settings.now (plain_bounds b)) }
-    ensures narrow { IfOk result (λ b. IsNarrow (plain_bounds b)) }
+    ensures narrow { IfOk result (λ b. HasNoLevelLeft (plain_bounds b)) }
 {
     // For the proof alone: tells the limits of the instance.
     let _limits = instance.len();

@@ -5,7 +5,7 @@ ghost use Rattle.tree_terms.specs.Trees.{Past as PlainPast};
 ghost use Rattle.work_share.specs.Outcomes.{plain_outcome};
 ghost use Rattle.class_search.specs.Right.{IsRight, Decides, IsYesOrNo};
 ghost use Rattle.conflict_search.specs.Sizes.{IsSized};
-ghost use Rattle.proposed_answers.specs.Behind.{plain_proposal, answer_behind, tree_count, tree_told, IsWithoutScales};
+ghost use Rattle.proposed_answers.specs.Behind.{plain_proposal, outcome_with_proposal, tree_count, tree_outcome, IsWithoutScales};
 
 use crate::proposing::{propose_packed, propose_refuted};
 use crate::steps::branching_steps;
@@ -15,7 +15,7 @@ use check_terms::PlaceVerdict;
 use class_search::decide;
 use conflict_search::Proposal;
 use placement_check::check_places;
-use proof_tree::{Outcome, TokenList};
+use proof_tree::{CompactTokens, Outcome};
 use std::alloc::Global;
 use std::sync::Wait;
 use std::thread::Threads;
@@ -35,7 +35,7 @@ pub fn answer_of(
 ) -> Result<Outcome, NoMemory>
     requires sized { IsSized instance.now proposal }
     ensures outcome { IfOk result (λ r. plain_outcome r
-        ≡ answer_behind instance.now (plain_proposal proposal) PlainPast) }
+        ≡ outcome_with_proposal instance.now (plain_proposal proposal) PlainPast) }
     ensures right { IfOk result (λ r. IsRight instance.now [] (plain_outcome r)) }
 {
     match proposal {
@@ -49,7 +49,7 @@ pub fn answer_of(
         Proposal::Tokens(tokens) => {
             if is_refutation(alloc, instance, &tokens)? {
                 let count = (tokens.len() / 2) as u64;
-                let tokens = TokenList::from_slice(alloc, &tokens)?;
+                let tokens = CompactTokens::from_slice(alloc, &tokens)?;
                 Ok(Outcome::No { tokens, count })
             } else {
                 Ok(Outcome::Past)
@@ -66,7 +66,7 @@ pub fn answer_of(
 /// function of the instance, the proposal, the budget and the choice of scales: the number of
 /// workers has no part in it. A yes by a proposal has a count of 0, and a no that of the splits in
 /// its tokens. Proposed places have one coordinate for each box and dimension.
-pub fn decide_behind<R: Threads + Wait + Sync, G: Gate + Sync>(
+pub fn decide_with_proposal<R: Threads + Wait + Sync, G: Gate + Sync>(
     rt: &R,
     alloc: Global,
     instance: &Instance,
@@ -76,8 +76,8 @@ pub fn decide_behind<R: Threads + Wait + Sync, G: Gate + Sync>(
 ) -> Result<Outcome, NoMemory>
     requires sized { IsSized instance.now proposal }
     ensures outcome { IfOk result (λ r. plain_outcome r
-        ≡ answer_behind instance.now (plain_proposal proposal)
-        (tree_told instance.now settings.now.budget settings.now.scales)) }
+        ≡ outcome_with_proposal instance.now (plain_proposal proposal)
+        (tree_outcome instance.now settings.now.budget settings.now.scales)) }
 {
     match answer_of(alloc, instance, proposal)? {
         Outcome::Yes { numbers, count } => Ok(Outcome::Yes { numbers, count }),
@@ -127,7 +127,7 @@ fn decide_open<R: Threads + Wait + Sync, G: Gate + Sync>(
     if settings.budget <= early {
         return answer_of(alloc, instance, proposal);
     }
-    decide_behind(rt, alloc, instance, proposal, settings, gate)
+    decide_with_proposal(rt, alloc, instance, proposal, settings, gate)
 }
 
 // Decides an instance by places, by the tree on a part of the budget, by a refutation, and by the
@@ -151,7 +151,7 @@ fn decide_packed<R: Threads + Wait + Sync, G: Gate + Sync>(
     let places = propose_packed(rt, alloc, instance, settings)?;
     let places = wanted(instance, places, settings.scales);
     let early = early_settings(instance, settings);
-    match decide_behind(rt, alloc, instance, places, &early, gate)? {
+    match decide_with_proposal(rt, alloc, instance, places, &early, gate)? {
         Outcome::Yes { numbers, count } => Ok(Outcome::Yes { numbers, count }),
         Outcome::No { tokens, count } => Ok(Outcome::No { tokens, count }),
         Outcome::Past => decide_open(rt, alloc, instance, early.budget, settings, gate),
@@ -188,7 +188,7 @@ fn decide_in_order<R: Threads + Wait + Sync, G: Gate + Sync>(
     // For the proof alone: tells the limits of the instance.
     let _limits = instance.len();
     let root = root_settings(settings);
-    match decide_behind(rt, alloc, instance, Proposal::Nothing, &root, gate)? {
+    match decide_with_proposal(rt, alloc, instance, Proposal::Nothing, &root, gate)? {
         Outcome::Yes { numbers, count } => Ok(Outcome::Yes { numbers, count }),
         Outcome::No { tokens, count } => Ok(Outcome::No { tokens, count }),
         Outcome::Past => decide_packed(rt, alloc, instance, settings, gate),
@@ -204,7 +204,7 @@ fn decide_in_order<R: Threads + Wait + Sync, G: Gate + Sync>(
 /// branchings than the budget: within the budget the answer is yes or no. Which packing, which
 /// refutation and how few branchings isn't promised. That the outcome is the same for every number
 /// of workers follows from the code and stands in no clause: the searches for proposals don't take
-/// the number of workers, and `decide_behind` gives one outcome for its proposal.
+/// the number of workers, and `decide_with_proposal` gives one outcome for its proposal.
 pub fn decide_proposed<R: Threads + Wait + Sync, G: Gate + Sync>(
     rt: &R,
     alloc: Global,

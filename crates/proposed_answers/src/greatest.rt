@@ -1,9 +1,9 @@
 //! The greatest value, by proposals first.
 ghost use Rattle.std.specs.Prelude.{◌≡◌, ◌<◌, ◌≤◌, IfOk};
-ghost use Rattle.level_bounds.specs.Bounds.{plain_bounds, IsNarrow};
+ghost use Rattle.level_bounds.specs.Bounds.{plain_bounds, HasNoLevelLeft};
 ghost use Rattle.bin_knapsack.specs.Choices.{IsTrueChoice};
 ghost use Rattle.proposed_answers.specs.Shares.{level_share};
-ghost use Rattle.proposed_answers.specs.Values.{top_value, AreValueBounds, AreFirstBounds, TellsValues, IsLimitedChoice, IsPastBeside};
+ghost use Rattle.proposed_answers.specs.Values.{top_value, AreValueBounds, AreFirstBounds, TellsValues, IsLimitedChoice, AreNeighboursPastBudget};
 
 use crate::choice_testing::{is_choice, worth_of};
 use crate::share::level_share;
@@ -104,9 +104,9 @@ fn closed<R: Threads + Wait + Sync, G: Gate + Sync>(
     requires search { search.old
         ≡ record { instance = instance.now; scales = settings.now.scales } }
     ensures kept { IfOk result (λ b. AreValueBounds instance.now settings.now (plain_bounds b)) }
-    ensures narrow { IfOk result (λ b. IsNarrow (plain_bounds b)) }
+    ensures narrow { IfOk result (λ b. HasNoLevelLeft (plain_bounds b)) }
 {
-    let from = first.afresh();
+    let from = first.without_attempts();
     if from.placed - from.refuted < 2 {
         return Ok(from);
     }
@@ -137,7 +137,7 @@ pub fn greatest_value_proposed<R: Threads + Wait + Sync, G: Gate + Sync>(
     ensures right { IfOk result (λ c. IsTrueChoice instance.now c) }
     ensures limited { IfOk result (λ c. IsLimitedChoice instance.now c) }
     ensures past { IfOk result
-        (λ c. IsPastBeside instance.now settings.now.budget settings.now.scales c) }
+        (λ c. AreNeighboursPastBudget instance.now settings.now.budget settings.now.scales c) }
 {
     // For the proof alone: tells the limits of the instance.
     let _limits = instance.len();
@@ -157,7 +157,7 @@ pub fn greatest_value_proposed<R: Threads + Wait + Sync, G: Gate + Sync>(
         settings,
         gate,
     )?;
-    let better = improved(rt, alloc, instance, top, near.afresh(), settings)?;
+    let better = improved(rt, alloc, instance, top, near.without_attempts(), settings)?;
     let nearer = lowered(alloc, instance, top, better, settings)?;
     let bounds = closed(
         rt,

@@ -1,23 +1,23 @@
 //! Heights of a strip, each decided by proposals first.
 ghost use Rattle.std.specs.Prelude.{◌≡◌, ◌≤◌, ◌*◌, length, IfOk, []};
 ghost use Rattle.packing_terms.specs.Packing.{dims, box_count};
-ghost use Rattle.packing_terms.specs.Limits.{most_height};
+ghost use Rattle.packing_terms.specs.Limits.{max_height};
 ghost use Rattle.tree_terms.specs.Trees.{Past as PlainPast};
 ghost use Rattle.work_share.specs.Outcomes.{plain_outcome};
 ghost use Rattle.class_search.specs.Right.{IsRight};
 ghost use Rattle.level_search.specs.Runs.{plain_level};
-ghost use Rattle.level_bounds.specs.Bounds.{plain_bounds, IsNarrow};
+ghost use Rattle.level_bounds.specs.Bounds.{plain_bounds, HasNoLevelLeft};
 ghost use Rattle.proposed_answers.specs.Shares.{level_share};
 ghost use Rattle.proposed_answers.specs.Heights.{IsPastTree, IsHeightAnswer, AreHeightBounds};
 
 use crate::decision::answer_of;
 use crate::effort::Effort;
-use crate::proposing::propose_within;
+use crate::proposing::propose_with_limit;
 use crate::purse::Purse;
 use box_instances::{Instance, NoMemory};
 use class_search::decide;
 use conflict_search::Proposal;
-use level_bounds::{Bounds, vain_behind};
+use level_bounds::{Bounds, updated_misses};
 use level_search::{Level, level_of};
 use proof_tree::Outcome;
 use proposals::propose_height;
@@ -59,7 +59,7 @@ fn propose_tall(
     if effort == Effort::Root || splits == 0 {
         return Ok(Outcome::Past);
     }
-    let proposal = propose_within(alloc, tall, settings.scales, splits)?;
+    let proposal = propose_with_limit(alloc, tall, settings.scales, splits)?;
     let outcome = answer_of(alloc, tall, proposal)?;
     purse.pay_splits(tall, splits, is_decided(&outcome));
     Ok(outcome)
@@ -112,7 +112,7 @@ fn decide_height<R: Threads + Wait + Sync, G: Gate + Sync>(
     settings: &Settings,
     gate: &G,
 ) -> Result<Level, NoMemory>
-    requires { height ≤ most_height }
+    requires { height ≤ max_height }
     ensures { IfOk result (λ level. IsHeightAnswer instance.now settings.now effort height
         (plain_level level)) }
 {
@@ -129,7 +129,7 @@ fn test_height(
     places: Vec<u32>,
     settings: &Settings,
 ) -> Result<Level, NoMemory>
-    requires limit { height ≤ most_height }
+    requires limit { height ≤ max_height }
     requires sized { length places.items ≡ box_count instance.now * dims instance.now }
     ensures { IfOk result (λ level. IsHeightAnswer instance.now settings.now Effort.Root height
         (plain_level level)) }
@@ -183,16 +183,16 @@ pub(crate) fn narrow_heights<R: Threads + Wait + Sync, G: Gate + Sync>(
     requires { AreHeightBounds instance.now settings.now effort (plain_bounds bounds) }
     ensures kept { IfOk result
         (λ b. AreHeightBounds instance.now settings.now effort (plain_bounds b)) }
-    ensures narrow { IfOk result (λ b. IsNarrow (plain_bounds b)) }
+    ensures narrow { IfOk result (λ b. HasNoLevelLeft (plain_bounds b)) }
 {
     let mut bounds = bounds;
-    let mut in_vain = purse.first_in_vain(effort);
-    while let Some(level) = bounds.level_behind(in_vain) {
+    let mut misses = purse.first_in_vain(effort);
+    while let Some(level) = bounds.next_level_after_misses(misses) {
         let gap = bounds.gap();
         let height = level as u32;
         let answer = decide_height(rt, alloc, instance, height, effort, purse, settings, gate)?;
         bounds = bounds.after(level, answer);
-        in_vain = vain_behind(in_vain, bounds.gap() < gap);
+        misses = updated_misses(misses, bounds.gap() < gap);
     }
     Ok(bounds)
 }
@@ -210,10 +210,10 @@ pub(crate) fn narrow_in_rounds<R: Threads + Wait + Sync, G: Gate + Sync>(
     requires { AreHeightBounds instance.now settings.now Effort.Root (plain_bounds first) }
     ensures kept { IfOk result
         (λ b. AreHeightBounds instance.now settings.now Effort.Share (plain_bounds b)) }
-    ensures narrow { IfOk result (λ b. IsNarrow (plain_bounds b)) }
+    ensures narrow { IfOk result (λ b. HasNoLevelLeft (plain_bounds b)) }
 {
     let mut purse = Purse::new(instance, settings);
-    let start = first.afresh();
+    let start = first.without_attempts();
     let mut bounds = narrow_heights(
         rt,
         alloc,
@@ -228,7 +228,7 @@ pub(crate) fn narrow_in_rounds<R: Threads + Wait + Sync, G: Gate + Sync>(
         if bounds.gap() < 2 || !purse.next_round(settings) {
             return Ok(bounds);
         }
-        let next = bounds.afresh();
+        let next = bounds.without_attempts();
         bounds = narrow_heights(
             rt,
             alloc,

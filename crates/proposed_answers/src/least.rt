@@ -1,10 +1,10 @@
 //! The least number of bins, by proposals first.
 ghost use Rattle.std.specs.Prelude.{◌≡◌, ◌<◌, ◌≤◌, IfOk};
 ghost use Rattle.packing_terms.specs.Goals.{HasTooLargeBox};
-ghost use Rattle.packing_terms.specs.Limits.{most_boxes};
+ghost use Rattle.packing_terms.specs.Limits.{max_boxes};
 ghost use Rattle.level_bounds.specs.Bounds.{plain_bounds};
 ghost use Rattle.bin_knapsack.specs.BinAnswers.{AreTrueBins};
-ghost use Rattle.proposed_answers.specs.Counts.{AreFirstBounds, TellsBins, AreNamedBins, AreLimitedBins, IsPastBeside};
+ghost use Rattle.proposed_answers.specs.Counts.{AreFirstBounds, TellsBins, AreNamedBins, AreLimitedBins, AreNeighboursPastBudget};
 
 use crate::bin_testing::are_bin_numbers;
 use crate::counts::narrow_bins;
@@ -12,7 +12,7 @@ use bin_knapsack::{Bins, least_bins};
 use box_instances::{Instance, NoMemory};
 use level_bounds::{Bounds, Level};
 use proposals::propose_bins;
-use set_search::{MOST_BUDGET, SetSearch};
+use set_search::{MAX_BUDGET, SetSearch};
 use std::alloc::Global;
 use std::sync::Wait;
 use std::thread::Threads;
@@ -20,7 +20,7 @@ use work_share::{Gate, Settings};
 
 // With so few branchings a tree takes some milliseconds, and most numbers of bins are decided by
 // them: those that the scale functions refute at the root, and those with bins to spare.
-const FEW_BRANCHINGS: u64 = 2_000;
+const QUICK_BUDGET: u64 = 2_000;
 
 // The settings of a rough decision, by one worker with few branchings.
 fn rough(settings: &Settings) -> Settings
@@ -28,7 +28,7 @@ fn rough(settings: &Settings) -> Settings
 {
     Settings {
         workers: 1,
-        budget: settings.budget.min(FEW_BRANCHINGS),
+        budget: settings.budget.min(QUICK_BUDGET),
         scales: settings.scales,
     }
 }
@@ -44,7 +44,7 @@ fn ample(settings: &Settings) -> Settings
     ensures budget { settings.now.budget ≤ result.budget }
     ensures scales { result.scales ≡ settings.now.scales }
 {
-    let budget = settings.budget.saturating_mul(BIN_PART).min(MOST_BUDGET);
+    let budget = settings.budget.saturating_mul(BIN_PART).min(MAX_BUDGET);
     Settings {
         workers: settings.workers,
         budget: budget.max(settings.budget),
@@ -55,7 +55,7 @@ fn ample(settings: &Settings) -> Settings
 // The answer by the bounds that were reached.
 fn told(bounds: Bounds) -> Bins
     requires order { bounds.refuted < bounds.placed }
-    requires limit { bounds.placed ≤ most_boxes }
+    requires limit { bounds.placed ≤ max_boxes }
     ensures { TellsBins (plain_bounds bounds) result }
 {
     if bounds.placed - bounds.refuted < 2 {
@@ -113,15 +113,15 @@ fn narrowed<R: Threads + Wait + Sync, G: Gate + Sync>(
     ensures named { IfOk result (λ b. AreNamedBins instance.now b) }
     ensures limited { IfOk result (λ b. AreLimitedBins instance.now b) }
     ensures past { IfOk result
-        (λ b. IsPastBeside instance.now settings.now.budget settings.now.scales b) }
+        (λ b. AreNeighboursPastBudget instance.now settings.now.budget settings.now.scales b) }
 {
     // For the proof alone: tells the limits of the instance.
     let _limits = instance.len();
     let few = rough(settings);
     let mut search = SetSearch::new(alloc, instance, settings.scales)?;
-    let start = first.afresh();
+    let start = first.without_attempts();
     let near = narrow_bins(rt, alloc, &mut search, instance, start, &few, gate)?;
-    let from = near.afresh();
+    let from = near.without_attempts();
     let ample = ample(settings);
     let bounds = narrow_bins(rt, alloc, &mut search, instance, from, &ample, gate)?;
     Ok(told(bounds))
@@ -147,7 +147,7 @@ pub fn least_bins_proposed<R: Threads + Wait + Sync, G: Gate + Sync>(
     ensures named { IfOk result (λ b. AreNamedBins instance.now b) }
     ensures limited { IfOk result (λ b. AreLimitedBins instance.now b) }
     ensures past { IfOk result
-        (λ b. IsPastBeside instance.now settings.now.budget settings.now.scales b) }
+        (λ b. AreNeighboursPastBudget instance.now settings.now.budget settings.now.scales b) }
 {
     // For the proof alone: tells the limits of the instance.
     let _limits = instance.len();

@@ -25,7 +25,7 @@ pub use bin_knapsack::{Bins, Choice};
 pub use bin_testing::are_bin_numbers;
 pub use choice_testing::{is_choice, worth_of};
 pub use conflict_search::Proposal;
-pub use decision::{answer_of, decide_behind, decide_proposed};
+pub use decision::{answer_of, decide_proposed, decide_with_proposal};
 pub use greatest::greatest_value_proposed;
 pub use least::least_bins_proposed;
 pub use refuting::is_value_refutation;

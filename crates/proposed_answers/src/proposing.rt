@@ -23,7 +23,7 @@ const MOST_SPLITS: u64 = 700_000;
 const PAIR_VISITS: u64 = 140_000_000;
 
 /// The most splits of the search for a refutation of an instance.
-pub(crate) fn most_splits(instance: &Instance) -> u64 {
+pub(crate) fn split_limit(instance: &Instance) -> u64 {
     let count = u64::from(instance.len());
     let splits = PAIR_VISITS / (count * count).max(1);
     splits.min(MOST_SPLITS)
@@ -31,7 +31,7 @@ pub(crate) fn most_splits(instance: &Instance) -> u64 {
 
 /// A proposal for an instance: places, a refutation by a search with at most `splits` splits, or
 /// nothing. One worker makes it, whatever the number of workers of the run.
-pub(crate) fn propose_within(
+pub(crate) fn propose_with_limit(
     alloc: Global,
     instance: &Instance,
     scales: bool,
@@ -66,7 +66,7 @@ pub(crate) fn propose_packed<R: Threads + Sync>(
 }
 
 /// A refutation of an instance under a budget, by a search with as many splits as the budget pays
-/// for, at most `most_splits`, or nothing. The search may find places too.
+/// for, at most `split_limit`, or nothing. The search may find places too.
 pub(crate) fn propose_refuted(
     alloc: Global,
     instance: &Instance,
@@ -75,6 +75,6 @@ pub(crate) fn propose_refuted(
 ) -> Result<Proposal, NoMemory>
     ensures { IfOk result (IsSized instance.now) }
 {
-    let splits = paid_splits(instance, budget).min(most_splits(instance));
+    let splits = paid_splits(instance, budget).min(split_limit(instance));
     propose_refutation(alloc, instance, scales, splits)
 }

@@ -3,7 +3,7 @@ ghost use Rattle.std.specs.Prelude.{◌≡◌, ◌≤◌};
 ghost use Rattle.proposed_answers.specs.Shares.{level_share};
 
 use crate::effort::Effort;
-use crate::proposing::most_splits;
+use crate::proposing::split_limit;
 use crate::share::level_share;
 use crate::steps::{branching_steps, splits_within, steps_of_splits, tree_steps};
 use box_instances::Instance;
@@ -40,7 +40,7 @@ pub(crate) struct Purse {
     branching: u64,
     trees: u64,
     splits: u64,
-    most_splits: u64,
+    split_limit: u64,
     has_few_boxes: bool,
 }
 
@@ -59,14 +59,14 @@ impl Purse {
         let all = tree_steps(settings.budget);
         let few = has_few_boxes(instance);
         let left = if few { all } else { all / PART_OF_MANY };
-        let most = most_splits(instance);
+        let most = split_limit(instance);
         let paid = splits_within(instance, left / FIRST_COST);
         Purse {
             left,
             branching: branching_steps(instance),
             trees: level_share(settings.budget),
             splits: if few { paid.min(most / FIRST_PART) } else { 0 },
-            most_splits: most / 2,
+            split_limit: most / 2,
             has_few_boxes: few,
         }
     }
@@ -115,7 +115,7 @@ impl Purse {
         let steps = steps_of_splits(instance, splits);
         self.left = self.left.saturating_sub(steps);
         self.splits = if is_decided {
-            self.splits.saturating_mul(2).min(self.most_splits)
+            self.splits.saturating_mul(2).min(self.split_limit)
         } else {
             self.splits / 2
         };

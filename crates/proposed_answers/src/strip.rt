@@ -1,10 +1,10 @@
 //! The least height, by proposals first.
 ghost use Rattle.std.specs.Prelude.{◌<◌, ◌≤◌, IfOk};
 ghost use Rattle.packing_terms.specs.Goals.{HasTooWideBox};
-ghost use Rattle.packing_terms.specs.Limits.{most_height};
+ghost use Rattle.packing_terms.specs.Limits.{max_height};
 ghost use Rattle.level_bounds.specs.Bounds.{plain_bounds};
 ghost use Rattle.strip_solver.specs.Strips.{IsTrueStrip};
-ghost use Rattle.proposed_answers.specs.Heights.{AreHeightBounds, TellsHeights, IsNamedStrip, IsLimitedStrip, IsPastBeside};
+ghost use Rattle.proposed_answers.specs.Heights.{AreHeightBounds, TellsHeights, IsNamedStrip, IsLimitedStrip, AreNeighboursPastBudget};
 
 use crate::effort::{Effort, at_root};
 use crate::heights::{lowered, narrow_heights, narrow_in_rounds};
@@ -21,7 +21,7 @@ use work_share::{Gate, Settings};
 // The answer by the bounds that were reached.
 fn told(bounds: Bounds) -> Strip
     requires order { bounds.refuted < bounds.placed }
-    requires limit { bounds.placed ≤ most_height }
+    requires limit { bounds.placed ≤ max_height }
     ensures { TellsHeights (plain_bounds bounds) result }
 {
     if bounds.placed - bounds.refuted < 2 {
@@ -55,13 +55,13 @@ fn both_ends<R: Threads + Wait + Sync, G: Gate + Sync>(
         (λ b. AreHeightBounds instance.now settings.now Effort.Root (plain_bounds b)) }
 {
     let placed = lowered(rt, alloc, instance, first, 0, settings)?;
-    let start = placed.afresh();
+    let start = placed.without_attempts();
     let effort = Effort::Root;
     let mut purse = Purse::new(instance, settings);
     let refuted = narrow_heights(
         rt, alloc, instance, start, effort, &mut purse, settings, gate,
     )?;
-    let ends = refuted.afresh();
+    let ends = refuted.without_attempts();
     let batches = swap_batches(instance, settings.budget);
     lowered(rt, alloc, instance, ends, batches, settings)
 }
@@ -81,7 +81,7 @@ fn narrowed<R: Threads + Wait + Sync, G: Gate + Sync>(
     ensures named { IfOk result (λ s. IsNamedStrip instance.now s) }
     ensures limited { IfOk result (λ s. IsLimitedStrip s) }
     ensures past { IfOk result
-        (λ s. IsPastBeside instance.now settings.now.budget settings.now.scales s) }
+        (λ s. AreNeighboursPastBudget instance.now settings.now.budget settings.now.scales s) }
 {
     // For the proof alone: tells the limits of the instance.
     let _limits = instance.len();
@@ -113,7 +113,7 @@ pub fn least_height_proposed<R: Threads + Wait + Sync, G: Gate + Sync>(
     ensures named { IfOk result (λ s. IsNamedStrip instance.now s) }
     ensures limited { IfOk result (λ s. IsLimitedStrip s) }
     ensures past { IfOk result
-        (λ s. IsPastBeside instance.now settings.now.budget settings.now.scales s) }
+        (λ s. AreNeighboursPastBudget instance.now settings.now.budget settings.now.scales s) }
 {
     // For the proof alone: tells the limits of the instance.
     let _limits = instance.len();

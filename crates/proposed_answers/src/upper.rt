@@ -7,7 +7,7 @@ use crate::refuting::is_value_refutation;
 use box_instances::{Instance, NoMemory};
 use level_bounds::{Bounds, Level};
 use outer_proposals::propose_value_refutation;
-use proof_tree::{Token, TokenList};
+use proof_tree::{CompactTokens, Token};
 use std::alloc::Global;
 use work_share::Settings;
 
@@ -99,6 +99,6 @@ pub(crate) fn lowered(
     if !is_value_refutation(alloc, instance, limit.value, &limit.tokens)? {
         return Ok(bounds);
     }
-    let tokens = TokenList::from_slice(alloc, &limit.tokens)?;
+    let tokens = CompactTokens::from_slice(alloc, &limit.tokens)?;
     Ok(bounds.after(level, Level::Refuted(tokens)))
 }

@@ -1,7 +1,7 @@
 //! Values between two others, each decided by its choice tree.
 ghost use Rattle.std.specs.Prelude.{◌≡◌, ◌<◌, ◌≤◌, pred, IfOk};
 ghost use Rattle.level_search.specs.Runs.{plain_level};
-ghost use Rattle.level_bounds.specs.Bounds.{plain_bounds, asked_left, IsAsked, IsNarrow};
+ghost use Rattle.level_bounds.specs.Bounds.{plain_bounds, levels_left, IsAsked, HasNoLevelLeft};
 ghost use Rattle.proposed_answers.specs.Shares.{level_share};
 ghost use Rattle.proposed_answers.specs.Values.{top_value, IsLevelAnswer, AreValueBounds};
 
@@ -74,7 +74,7 @@ pub(crate) fn ask_level<R: Threads + Wait + Sync, G: Gate + Sync>(
     ensures same { search.new ≡ search.old }
     ensures kept { IfOk result (λ b. AreValueBounds instance.now settings.now (plain_bounds b)) }
     ensures less { IfOk result
-        (λ b. asked_left (plain_bounds b) < asked_left (plain_bounds bounds)) }
+        (λ b. levels_left (plain_bounds b) < levels_left (plain_bounds bounds)) }
 {
     let answer = decide_level(
         rt, alloc, search, instance, top, level, branchings, settings, gate,
@@ -102,7 +102,7 @@ pub(crate) fn narrow_values<R: Threads + Wait + Sync, G: Gate + Sync>(
         ≡ record { instance = instance.now; scales = settings.now.scales } }
     ensures same { search.new ≡ search.old }
     ensures kept { IfOk result (λ b. AreValueBounds instance.now settings.now (plain_bounds b)) }
-    ensures narrow { IfOk result (λ b. IsNarrow (plain_bounds b)) }
+    ensures narrow { IfOk result (λ b. HasNoLevelLeft (plain_bounds b)) }
 {
     let mut bounds = bounds;
     while let Some(level) = bounds.next_level() {

@@ -6,7 +6,7 @@ use Rattle.packing_terms.specs.declared.Exclusion.{Exclusion}
 use Rattle.packing_terms.specs.Packing.{PlainInstance, IsPacking, Fits, HasPositiveSides, dims, box_count}
 use Rattle.packing_terms.specs.Exclusions.{AreAtEdges}
 use Rattle.packing_terms.specs.Goals.{with_last_side, HasTooWideBox, IsLeastHeight}
-use Rattle.packing_terms.specs.Limits.{IsInternalInstance, most_height}
+use Rattle.packing_terms.specs.Limits.{IsInternalInstance, max_height}
 use Rattle.packing_terms.specs.Tokens.{PlainToken}
 use Rattle.packing_terms.specs.Refutation.{Refutes, by_side}
 use Rattle.packing_terms.proofs.Internal.{internal_sides, some_dimension}
@@ -29,7 +29,7 @@ use Rattle.tree_terms.proofs.LevelOrder.{rising_end, spent_exactly}
 use Rattle.tree_terms.proofs.Optima.{internal_at, stack_small}
 use Rattle.tree_terms.proofs.Runs.{run_right}
 use Rattle.tree_terms.proofs.SpentRuns.{height_end, spent_level}
-use Rattle.reduced_levels.specs.Heights.{height_answer_from, height_run_from, HasLargeHeightFrom, DecideHeights}
+use Rattle.reduced_levels.specs.Heights.{height_answer_from, height_run_from, HasHeightPastBudgetFrom, DecideHeights}
 
 module _ (instance : PlainInstance) (limits : IsInternalInstance instance) where
   sides_at : (h : ℕ) → HasPositiveSides (with_last_side instance h)
@@ -88,21 +88,21 @@ module _ (instance : PlainInstance) (start : List Exclusion) (budget : ℕ) (sca
   abbrev answers : ℕ → PlainLevel
   answers = height_answer_from start instance budget scales
 
-  pub spent_from : IsTrue (height_run_from start instance budget scales).spent ↔ HasLargeHeightFrom start instance
+  pub spent_from : IsTrue (height_run_from start instance budget scales).spent ↔ HasHeightPastBudgetFrom start instance
       budget scales
   spent_from = (
     λ h. there ((spent_exactly answers (first_heights instance) refl).0 h),
     λ h. (spent_exactly answers (first_heights instance) refl).1 (back h),
   )
     where
-      there : HasSpentDecision answers (first_heights instance) → HasLargeHeightFrom start instance budget scales
+      there : HasSpentDecision answers (first_heights instance) → HasHeightPastBudgetFrom start instance budget scales
       there (level, d, e) = (
         level,
         d,
         (spent_level budget (outcome (class_tree (with_last_side instance level) start scales))).0 e,
       )
 
-      back : HasLargeHeightFrom start instance budget scales → HasSpentDecision answers (first_heights instance)
+      back : HasHeightPastBudgetFrom start instance budget scales → HasSpentDecision answers (first_heights instance)
       back (level, d, l) = (
         level,
         d,
@@ -128,7 +128,7 @@ module _ (instance : PlainInstance) (start : List Exclusion) (budget : ℕ) (sca
         → (height_run_from start instance budget scales).spent ≡ false
     enough_from bound = go (cases_Bool (height_run_from start instance budget scales).spent)
       where
-        none : HasLargeHeightFrom start instance budget scales → ⊥
+        none : HasHeightPastBudgetFrom start instance budget scales → ⊥
         none (level, d, l) = let f = few level in omega (arith, f, bound, l)
 
         go : ((height_run_from start instance budget scales).spent ≡ true)
@@ -156,7 +156,7 @@ module _ (instance : PlainInstance) (limits : IsInternalInstance instance) (star
   abbrev Denies : ℕ → List PlainToken → Type 0
   Denies h ts = Refutes (with_last_side instance h) start ts
 
-  right_at : (h : ℕ) → h ≤ most_height → IsRightLevel Shows Denies h (height_answer_from start instance budget scales h)
+  right_at : (h : ℕ) → h ≤ max_height → IsRightLevel Shows Denies h (height_answer_from start instance budget scales h)
   right_at h l =
       go (ltb budget (count_of (outcome (class_tree (with_last_side instance h) start scales))))
       (outcome (class_tree (with_last_side instance h) start scales))
@@ -173,7 +173,7 @@ module _ (instance : PlainInstance) (limits : IsInternalInstance instance) (star
       run_right Shows Denies (height_answer_from start instance budget scales) (first_heights instance)
       (λ m b. right_at m (below b)) (zero_from instance limits start) (stack_packs instance limits narrow)
     where
-      below : {m : ℕ} → IsLevelBetween (first_heights instance) m → m ≤ most_height
+      below : {m : ℕ} → IsLevelBetween (first_heights instance) m → m ≤ max_height
       below (inl (x, y)) = let s = stack_small instance limits in omega (arith, y, s)
       below (inr (x, y)) = absurd (omega (arith, y))
 

@@ -13,7 +13,7 @@ ghost use Rattle.tree_terms.specs.Search.{IsRightUnder, IsYesVerdict};
 ghost use Rattle.tree_terms.specs.ClassTree.{class_tree};
 ghost use Rattle.tree_terms.specs.Levels.{HasBothCertificates, first_heights, height_run};
 ghost use Rattle.tree_terms.specs.RunEnds.{IsRisingEnd};
-ghost use Rattle.reduced_levels.specs.Heights.{height_run_from, HasLargeHeightFrom, DecideHeights};
+ghost use Rattle.reduced_levels.specs.Heights.{height_run_from, HasHeightPastBudgetFrom, DecideHeights};
 
 /// No exclusion decides heights, and so do the symmetry facts of an instance.
 pub fn heights_are_decided_from()
@@ -72,7 +72,7 @@ pub fn runs_from_exclusions()
         → IsRisingEnd (first_heights instance) (height_run_from start instance budget scales) }
     ensures spent { (instance : PlainInstance) (start : List Exclusion) (budget : ℕ) (scales : Bool)
         → IsTrue (height_run_from start instance budget scales).spent
-        ↔ HasLargeHeightFrom start instance budget scales }
+        ↔ HasHeightPastBudgetFrom start instance budget scales }
     ensures enough { (instance : PlainInstance) (start : List Exclusion) (budget : ℕ)
         (scales : Bool) → IsInternalInstance instance
         → 3 ^ (dims instance * box_count instance * (box_count instance - 1) / 2) ≤ budget + 1

@@ -15,7 +15,7 @@ use Rattle.box_instances.specs.Sets.{PlainBoxSet, all_boxes}
 use Rattle.box_instances.proofs.BoxSets.{set_few}
 use Rattle.edge_state.specs.Edges.{PlainEdges, oldest}
 use Rattle.refutation_check.specs.declared.node.OpenNode.{OpenNode}
-use Rattle.rule_passes.specs.Rooms.{PlainRoom}
+use Rattle.rule_passes.specs.Rooms.{PlainPropagator}
 use Rattle.refutation_check.specs.Nodes.{with_each, opens, all_relations, IsHeldNode}
 use Rattle.refutation_check.specs.Refuters.{PlainRefuter, most_nodes, IsHeld}
 use Rattle.refutation_check.proofs.Nodes.{each_same}
@@ -61,7 +61,7 @@ root_held set start es n is f = rw is (record {
     few : opens set es ≤ all_relations set
     few = few_open (dims set) (box_count set) es
 
-pub begun : (whole set : PlainInstance) (start : List Exclusion) (state : PlainEdges) (room : PlainRoom)
+pub begun : (whole set : PlainInstance) (start : List Exclusion) (state : PlainEdges) (room : PlainPropagator)
     (n : OpenNode) (sc nc : ℕ)
     → box_count set ≤ box_count whole → state.dims ≡ dims set → state.boxes ≡ box_count set
     → state.room ≡ box_count whole
@@ -84,7 +84,7 @@ begun whole set start state room n sc nc within d b t rd r m s k f is = record {
 }
 
 pub begun_all : (instance : PlainInstance) (boxes : PlainBoxSet) (start splits : List Exclusion) (nodes : List OpenNode)
-    (fresh state : PlainEdges) (room : PlainRoom)
+    (fresh state : PlainEdges) (room : PlainPropagator)
     (root : OpenNode) (sc nc d n mark : ℕ) → boxes ≡ record { whole = instance; keep = all_boxes instance }
     → d ≡ dims instance → n ≡ box_count instance
     → fresh ≡ record { dims = d; boxes = n; room = n; trail = [] } → state ≡ record fresh { trail = with_each start }
@@ -100,8 +100,8 @@ begun_all instance boxes start splits nodes fresh state room root sc nc d n mark
     (ap (λ (s : PlainEdges). s.boxes) (es ∙ ap (λ (s : PlainEdges). record s { trail = with_each start }) ef)
     ∙ (en ∙ sym same))
     (ap (λ (s : PlainEdges). s.room) (es ∙ ap (λ (s : PlainEdges). record s { trail = with_each start }) ef) ∙ en)
-    (ap (λ (r : PlainRoom). r.dims) er ∙ ed) (ap (λ (r : PlainRoom). r.boxes) er ∙ (en ∙ sym same))
-    (ap (λ (r : PlainRoom). r.most) er ∙ en)
+    (ap (λ (r : PlainPropagator). r.dims) er ∙ ed) (ap (λ (r : PlainPropagator). r.boxes) er ∙ (en ∙ sym same))
+    (ap (λ (r : PlainPropagator). r.most) er ∙ en)
     (rw (← ed, ← en) hs) (rw (← ed, ← en) hn) (ap (λ (s : PlainEdges). s.trail) es) (rw (← em) is))
   where
     same : box_count (subset instance (all_boxes instance)) ≡ box_count instance
@@ -110,7 +110,7 @@ begun_all instance boxes start splits nodes fresh state room root sc nc d n mark
 -- another tree, of other boxes: the state and the room were those of the last one
 pub begun_again : (whole last : PlainInstance) (keep : List ℕ) (boxes : PlainBoxSet) (start splits : List Exclusion)
     (held nodes : List OpenNode)
-    (old_start old_splits : List Exclusion) (old state : PlainEdges) (was room : PlainRoom) (root : OpenNode)
+    (old_start old_splits : List Exclusion) (old state : PlainEdges) (was room : PlainPropagator) (root : OpenNode)
     (sc nc sc' nc' n mark : ℕ)
     → IsHeld whole last old_start old_splits held old was sc nc → dims last ≡ dims whole → IsBoxSet whole keep
     → boxes ≡ record { whole = whole; keep = keep }
@@ -124,8 +124,8 @@ begun_again whole last keep boxes start splits held nodes old_start old_splits o
     (omega (arith, set_count whole keep, set_few whole keep set))
     (ap (λ (s : PlainEdges). s.dims) es ∙ (h.same_dims ∙ same)) (ap (λ (s : PlainEdges). s.boxes) es ∙ en)
     (ap (λ (s : PlainEdges). s.room) es ∙ h.state_room)
-    (ap (λ (r : PlainRoom). r.dims) er ∙ (h.room_dims ∙ same)) (ap (λ (r : PlainRoom). r.boxes) er ∙ en)
-    (ap (λ (r : PlainRoom). r.most) er ∙ h.room_most) h.split_room h.node_room
+    (ap (λ (r : PlainPropagator). r.dims) er ∙ (h.room_dims ∙ same)) (ap (λ (r : PlainPropagator). r.boxes) er ∙ en)
+    (ap (λ (r : PlainPropagator). r.most) er ∙ h.room_most) h.split_room h.node_room
     (ap (λ (s : PlainEdges). s.trail) es) (rw (← em) is))
 
 -- the boxes of the new tree are a set of the instance that is kept

@@ -17,7 +17,7 @@ use Rattle.check_terms.specs.declared.answers.FeedVerdict.TheVariants.{More, Don
 use Rattle.check_terms.specs.Judging.{refusal}
 use Rattle.check_terms.specs.Checking.{Checked, checked_after, inner_after, answered_by}
 use Rattle.refutation_check.specs.declared.node.OpenNode.{OpenNode}
-use Rattle.rule_passes.specs.Rooms.{PlainRoom}
+use Rattle.rule_passes.specs.Rooms.{PlainPropagator}
 use Rattle.refutation_check.specs.Nodes.{node_exclusions, above, all_relations, IsOver, AreHeld, splits_after}
 use Rattle.refutation_check.specs.Nodes.{child_nodes, is_split, IsJudged}
 use Rattle.refutation_check.specs.Refuters.{PlainRefuter, most_nodes, fed, nodes_of, IsHeld}
@@ -58,7 +58,7 @@ children_fit ValueShort mark count k m two none = omega (arith, none)
 children_fit (GlobalScales fs) mark count k m two none = omega (arith, none)
 
 module _ (whole set : PlainInstance) (start splits : List Exclusion) (held : List OpenNode) (state : PlainEdges)
-    (room : PlainRoom) (sc nc : ℕ)
+    (room : PlainPropagator) (sc nc : ℕ)
     (same : dims set ≡ dims whole) (h : IsHeld whole set start splits held state room sc nc) (last : ℕ)
     (count : last + 1 ≡ length held) (n : OpenNode)
     (here : n ≡ slice_index_or held last n) where
@@ -91,7 +91,7 @@ module _ (whole set : PlainInstance) (start splits : List Exclusion) (held : Lis
       ∷ map (λ m. node_exclusions m (above start splits m)) ns
   seen = ap (map (λ m. node_exclusions m (above start splits m))) split
 
-  module _ (new : PlainEdges) (sizes : new ≡ record state { trail = new.trail }) (after : PlainRoom)
+  module _ (new : PlainEdges) (sizes : new ≡ record state { trail = new.trail }) (after : PlainPropagator)
       (kept : after ≡ room) (token : PlainToken) where
     new_dims : new.dims ≡ dims set
     new_dims = ap (λ (s : PlainEdges). s.dims) sizes ∙ h.same_dims

@@ -8,7 +8,7 @@ use Rattle.packing_terms.specs.Packing.{PlainInstance, dims}
 use Rattle.packing_terms.specs.Goals.{subset}
 use Rattle.edge_state.specs.Edges.{PlainEdges}
 use Rattle.check_terms.specs.declared.answers.RefuseCode.{RefuseCode}
-use Rattle.rule_passes.specs.Rooms.{PlainRoom}
+use Rattle.rule_passes.specs.Rooms.{PlainPropagator}
 use Rattle.family_terms.specs.Families.{is_too_long}
 use Rattle.refutation_check.specs.declared.node.OpenNode.{OpenNode}
 use Rattle.refutation_check.specs.Nodes.{above, AreHeld}
@@ -18,11 +18,11 @@ use Rattle.refutation_check.proofs.Stack.{held_same, held_less}
 use Rattle.refutation_check.proofs.Feeding.{ns, split, stack, seen}
 
 module _ (whole set : PlainInstance) (start splits : List Exclusion) (held : List OpenNode) (state : PlainEdges)
-    (room : PlainRoom) (sc nc : ℕ)
+    (room : PlainPropagator) (sc nc : ℕ)
     (same : dims set ≡ dims whole) (h : IsHeld whole set start splits held state room sc nc) (last : ℕ)
     (count : last + 1 ≡ length held) (n : OpenNode)
     (here : n ≡ slice_index_or held last n) (new : PlainEdges) (sizes : new ≡ record state { trail = new.trail })
-    (after : PlainRoom) (kept : after ≡ room) (answer : Option RefuseCode) (i : ℕ) (us vs : List ℕ)
+    (after : PlainPropagator) (kept : after ≡ room) (answer : Option RefuseCode) (i : ℕ) (us vs : List ℕ)
     (tested : AreTested set n state.trail new.trail answer i us vs) where
   abbrev behind : List OpenNode
   behind = ns whole set start splits held state room sc nc same h last count n here

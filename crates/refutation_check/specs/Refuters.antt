@@ -7,7 +7,7 @@ use Rattle.packing_terms.specs.Tokens.{PlainToken}
 use Rattle.edge_state.specs.Edges.{PlainEdges}
 use Rattle.check_terms.specs.Checking.{Checked, checked_after, inner_after}
 use Rattle.refutation_check.specs.declared.node.OpenNode.{OpenNode}
-use Rattle.rule_passes.specs.Rooms.{PlainRoom}
+use Rattle.rule_passes.specs.Rooms.{PlainPropagator}
 use Rattle.refutation_check.specs.Nodes.{node_exclusions, above, all_relations, AreHeld}
 
 -- the instance, the boxes of the tree by rising number, and what was checked of it: the list of
@@ -33,7 +33,7 @@ nodes_of start splits held = map (λ n. node_exclusions n (above start splits n)
 -- what the type keeps: state and room have the sizes of the set's instance, and there is memory for
 -- the trees of the whole one
 pub record IsHeld (whole set : PlainInstance) (start splits : List Exclusion) (held : List OpenNode)
-    (state : PlainEdges) (room : PlainRoom)
+    (state : PlainEdges) (room : PlainPropagator)
     (split_capacity node_capacity : ℕ) : Type 0 where
   pub within : box_count set ≤ box_count whole
   pub same_dims : state.dims ≡ dims set

@@ -10,11 +10,11 @@ ghost use Rattle.refutation_check.specs.Ended.{IsEnded};
 
 use box_instances::Instance;
 use edge_state::{EdgeState, Mark};
-use rule_passes::ClosingRoom;
+use rule_passes::Propagator;
 
 /// Excludes what follows from the exclusions of the state, from PAIR at all pairs on. True is a
 /// conflict.
-pub(crate) fn close_all(instance: &Instance, state: &mut EdgeState, room: &mut ClosingRoom) -> bool
+pub(crate) fn close_all(instance: &Instance, state: &mut EdgeState, room: &mut Propagator) -> bool
     requires dims { state.old.dims ≡ dims instance.now }
     requires boxes { state.old.boxes ≡ box_count instance.now }
     requires room_dims { room.old.dims ≡ dims instance.now }
@@ -33,7 +33,7 @@ pub(crate) fn close_all(instance: &Instance, state: &mut EdgeState, room: &mut C
 pub(crate) fn close_since(
     instance: &Instance,
     state: &mut EdgeState,
-    room: &mut ClosingRoom,
+    room: &mut Propagator,
     closed: Mark,
 ) -> bool
     requires dims { state.old.dims ≡ dims instance.now }

@@ -14,7 +14,7 @@ use crate::node::{OpenNode, enter};
 use box_instances::Instance;
 use check_terms::RefuseCode;
 use edge_state::{EdgeState, Rel};
-use rule_passes::ClosingRoom;
+use rule_passes::Propagator;
 
 // Whether two boxes of the text are distinct, and apart in a dimension.
 fn is_beside(state: &EdgeState, dim: u32, u: u32, v: u32) -> bool
@@ -85,7 +85,7 @@ fn are_named(instance: &Instance, family: &[u32], begun: usize) -> bool
 pub(crate) fn test_boxes(
     instance: &Instance,
     state: &mut EdgeState,
-    room: &mut ClosingRoom,
+    room: &mut Propagator,
     node: OpenNode,
     dim: u32,
     family: &[u32],

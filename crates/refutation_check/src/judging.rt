@@ -3,7 +3,7 @@ ghost use Rattle.std.specs.Prelude.{◌≡◌, ◌≤◌, ◌&&◌, ◌||◌, no
 ghost use Rattle.packing_terms.specs.declared.Exclusion.{Exclusion as PlainExclusion};
 ghost use Rattle.packing_terms.specs.declared.Rel.TheVariants.{Overlap, Before, After};
 ghost use Rattle.packing_terms.specs.Packing.{dims, box_count};
-ghost use Rattle.packing_terms.specs.Limits.{most_boxes};
+ghost use Rattle.packing_terms.specs.Limits.{max_boxes};
 ghost use Rattle.packing_terms.specs.Tokens.PlainToken.{Apart as PlainApart, Order as PlainOrder, Rules as PlainRules, TooLarge as PlainTooLarge};
 ghost use Rattle.relation_table.specs.Masks.{mask_has};
 ghost use Rattle.proof_tree.specs.Plain.{plain_token};
@@ -17,7 +17,7 @@ use conservative_scales::{ScaleFn, exceeds, legal};
 use edge_state::{EdgeState, Rel};
 use proof_tree::Token;
 use relation_table::Mask;
-use rule_passes::ClosingRoom;
+use rule_passes::Propagator;
 
 /// Whether the number of a text names a dimension.
 pub(crate) fn names_dim(instance: &Instance, dim: u32) -> bool
@@ -59,7 +59,7 @@ fn may_order(mask: Mask) -> bool
 fn apart_refusal(
     instance: &Instance,
     state: &mut EdgeState,
-    room: &mut ClosingRoom,
+    room: &mut Propagator,
     node: OpenNode,
     dim: u32,
     u: u32,
@@ -91,7 +91,7 @@ fn apart_refusal(
 fn order_refusal(
     instance: &Instance,
     state: &mut EdgeState,
-    room: &mut ClosingRoom,
+    room: &mut Propagator,
     node: OpenNode,
     dim: u32,
     u: u32,
@@ -123,7 +123,7 @@ fn order_refusal(
 fn rules_refusal(
     instance: &Instance,
     state: &mut EdgeState,
-    room: &mut ClosingRoom,
+    room: &mut Propagator,
     node: OpenNode,
 ) -> Option<RefuseCode>
     requires over { IsOver instance.now state.old node }
@@ -175,7 +175,7 @@ pub fn are_legal(instance: &Instance, tuple: &[ScaleFn]) -> bool
 /// legal for its container side, else `Excess` where a side of a box exceeds the container's or the
 /// tuple doesn't exceed.
 pub fn judge_tuple(instance: &Instance, tuple: &[ScaleFn], copies: u32) -> Option<RefuseCode>
-    requires { copies ≤ most_boxes }
+    requires { copies ≤ max_boxes }
     ensures { result ≡ tuple_refusal instance.now copies tuple.now }
 {
     if tuple.len() != instance.dims() as usize {
@@ -198,7 +198,7 @@ pub fn judge_tuple(instance: &Instance, tuple: &[ScaleFn], copies: u32) -> Optio
 pub(crate) fn judge(
     instance: &Instance,
     state: &mut EdgeState,
-    room: &mut ClosingRoom,
+    room: &mut Propagator,
     node: OpenNode,
     token: &Token,
 ) -> Option<RefuseCode>

@@ -12,7 +12,7 @@ ghost use Rattle.refutation_check.specs.Nodes.{with_each, with_some, IsAtAmong, 
 use crate::closing::{close_all, close_since};
 use box_instances::Instance;
 use edge_state::{EdgeState, Exclusion, Mark};
-use rule_passes::ClosingRoom;
+use rule_passes::Propagator;
 
 /// An open node: how long the lists of the state and of the splits were at its parent, and what its
 /// split excludes; nothing at the root.
@@ -66,7 +66,7 @@ pub(crate) fn exclude_each(state: &mut EdgeState, start: &[Exclusion])
 pub(crate) fn enter(
     instance: &Instance,
     state: &mut EdgeState,
-    room: &mut ClosingRoom,
+    room: &mut Propagator,
     node: OpenNode,
 ) -> bool
     requires over { IsOver instance.now state.old node }

@@ -17,7 +17,7 @@ use box_instances::{BoxSet, Instance, NoMemory};
 use check_terms::{FeedVerdict, RefuseCode};
 use edge_state::{EdgeState, Exclusion};
 use proof_tree::Token;
-use rule_passes::ClosingRoom;
+use rule_passes::Propagator;
 use std::alloc::Global;
 use std::marker::Model;
 
@@ -35,7 +35,7 @@ pub struct Refuter<'a> {
     splits: Vec<Exclusion>,
     nodes: Vec<OpenNode>,
     state: EdgeState,
-    room: ClosingRoom,
+    room: Propagator,
     refused: Option<RefuseCode>,
 }
 
@@ -123,7 +123,7 @@ impl<'a> Refuter<'a> {
         let splits = split_room(alloc, dims, count)?;
         let mut nodes = node_room(alloc, dims, count)?;
         let mut state = EdgeState::new(alloc, dims, count)?;
-        let room = ClosingRoom::new(alloc, dims, count)?;
+        let room = Propagator::new(alloc, dims, count)?;
         exclude_each(&mut state, start.as_slice());
         nodes.push_reserved(OpenNode::root(state.mark()));
         Ok(Refuter {

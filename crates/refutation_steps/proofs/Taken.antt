@@ -68,7 +68,7 @@ module _ (instance : PlainInstance) where
       → ((z : List PlainToken) → (n : IsAt instance old closed (t ∷ z))
       → Explains instance old.state.trail (Plain t ∷ []) × (z ≡ n.others)) → Takes instance old new closed t
   leaf_taken old new closed t f w one by = record {
-    sizes = sizes_stay old new f w.same_state w.same_given w.same_closer w.same_room;
+    sizes = sizes_stay old new f w.same_state w.same_given w.same_closer w.same_box_capacity;
     tokens = leaf_tokens old.lines new.lines (Plain t) t one w.lines;
     between = λ z n. between_by old new z w.same_state w.same_given
         (subst (λ p. IsWalking instance old.given.trail old.state.trail (reverse p.items) new.lines
@@ -174,7 +174,7 @@ module _ (instance : PlainInstance) where
         mid.given.trail (Some mark)
         → IsApartSplit mid new mark i u v → Takes instance old new closed (Apart i u v)
     apart_taken new mark i u v f s w = record {
-      sizes = sizes_stay mid new f w.same_state w.same_given w.same_closer w.same_room;
+      sizes = sizes_stay mid new f w.same_state w.same_given w.same_closer w.same_box_capacity;
       tokens = later_tokens new (Some mark) (Plain (Apart i u v)) (Apart i u v) s refl w.lines;
       between = λ z n. between_by mid new z w.same_state w.same_given
           (apart_split instance mid.given.trail mid.state.trail mark (reverse old.pending.items)
@@ -190,7 +190,7 @@ module _ (instance : PlainInstance) where
         mid.given.trail (Some mark)
         → IsOrderSplit mid new mark i u v → Takes instance old new closed (Order i u v)
     order_taken new mark i u v f s w = record {
-      sizes = sizes_stay mid new f w.same_state w.same_given w.same_closer w.same_room;
+      sizes = sizes_stay mid new f w.same_state w.same_given w.same_closer w.same_box_capacity;
       tokens = later_tokens new (Some mark) (Plain (Order i u v)) (Order i u v) s refl w.lines;
       between = λ z n. between_by mid new z w.same_state w.same_given
           (order_split instance mid.given.trail mid.state.trail mark (reverse old.pending.items)

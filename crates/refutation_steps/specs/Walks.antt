@@ -37,7 +37,7 @@ pub record IsSplit (old new : Walk) (token : PlainToken) (near far : Pending) : 
   pub same_state : new.state ≡ old.state
   pub same_given : new.given ≡ old.given
   pub same_closer : new.closer ≡ old.closer
-  pub same_room : new.room ≡ old.room
+  pub same_box_capacity : new.room ≡ old.room
   pub nodes : reverse new.pending.items ≡ near ∷ far ∷ reverse old.pending.items
   pub lines : new.lines ≡ old.lines ++ Plain token ∷ []
 
@@ -76,6 +76,6 @@ pub record IsLeafWritten (old new : Walk) (token : PlainToken) : Type 0 where
   pub same_state : new.state ≡ old.state
   pub same_given : new.given ≡ old.given
   pub same_closer : new.closer ≡ old.closer
-  pub same_room : new.room ≡ old.room
+  pub same_box_capacity : new.room ≡ old.room
   pub same_pending : new.pending ≡ old.pending
   pub lines : new.lines ≡ old.lines ++ Plain token ∷ []

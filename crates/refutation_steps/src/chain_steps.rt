@@ -27,7 +27,7 @@ use std::alloc::Global;
 
 /// Room for the weights of chains, and for the boxes of two chains.
 #[derive(Drop)]
-pub struct ChainRoom {
+pub struct ChainScratch {
     pub head: Vec<u64>,
     pub tail: Vec<u64>,
     pub before: Vec<u32>,
@@ -45,12 +45,12 @@ fn weights_of(alloc: Global, boxes: u32) -> Result<Vec<u64>, NoMemory>
 }
 
 /// Room for so many boxes.
-pub(crate) fn chain_room(alloc: Global, boxes: u32) -> Result<ChainRoom, NoMemory>
+pub(crate) fn chain_room(alloc: Global, boxes: u32) -> Result<ChainScratch, NoMemory>
     ensures { IfOk result (λ room. HasWeights boxes room.head.items room.tail.items) }
 {
     let head = weights_of(alloc, boxes)?;
     let tail = weights_of(alloc, boxes)?;
-    Ok(ChainRoom {
+    Ok(ChainScratch {
         head,
         tail,
         before: Vec::new(alloc),
@@ -70,7 +70,7 @@ fn is_before(rel: Rel) -> bool
 }
 
 // The weights of the heaviest chains of the state in a dimension.
-fn weigh_chains(instance: &Instance, state: &EdgeState, dim: u32, room: &mut ChainRoom)
+fn weigh_chains(instance: &Instance, state: &EdgeState, dim: u32, room: &mut ChainScratch)
     requires sizes { IsSized instance.now state.now dim }
     requires room { HasWeights (box_count instance.now) room.old.head.items room.old.tail.items }
     requires full { HasNoEmptyMask instance.now (excludes state.now.trail) }
@@ -153,7 +153,7 @@ fn take_chain(
     instance: &Instance,
     state: &mut EdgeState,
     lines: &mut StepList,
-    room: &mut ChainRoom,
+    room: &mut ChainScratch,
     e: Exclusion,
 ) -> Result<(), NoMemory>
     requires placed { IsPlaced instance.now state.old e }
@@ -209,7 +209,7 @@ pub(crate) fn seek_chain(
     instance: &Instance,
     state: &mut EdgeState,
     lines: &mut StepList,
-    room: &mut ChainRoom,
+    room: &mut ChainScratch,
     e: Exclusion,
 ) -> Result<bool, NoMemory>
     requires placed { IsPlaced instance.now state.old e }

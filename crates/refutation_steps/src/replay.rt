@@ -8,7 +8,7 @@ ghost use Rattle.refutation_steps.specs.Places.{IsPlaced};
 ghost use Rattle.refutation_steps.specs.Replays.{IsPlainSought, AreChainsTried, IsMade, IsReplayed};
 ghost use Rattle.refutation_steps.specs.Chains.{HasWeights};
 
-use crate::chain_steps::{ChainRoom, seek_chain};
+use crate::chain_steps::{ChainScratch, seek_chain};
 use crate::places::{is_there, seek_plain, turned_exclusion};
 use box_instances::{Instance, NoMemory};
 use edge_state::{EdgeState, Exclusion, Mark};
@@ -34,7 +34,7 @@ fn seek_chains(
     instance: &Instance,
     state: &mut EdgeState,
     lines: &mut StepList,
-    room: &mut ChainRoom,
+    room: &mut ChainScratch,
     e: Exclusion,
 ) -> Result<bool, NoMemory>
     requires placed { IsPlaced instance.now state.old e }
@@ -56,7 +56,7 @@ fn make(
     instance: &Instance,
     state: &mut EdgeState,
     lines: &mut StepList,
-    room: &mut ChainRoom,
+    room: &mut ChainScratch,
     e: Exclusion,
 ) -> Result<bool, NoMemory>
     requires placed { IsPlaced instance.now state.old e }
@@ -82,7 +82,7 @@ pub(crate) fn replay_on(
     instance: &Instance,
     state: &mut EdgeState,
     lines: &mut StepList,
-    room: &mut ChainRoom,
+    room: &mut ChainScratch,
     closed: &EdgeState,
     from: Mark,
 ) -> Result<bool, NoMemory>

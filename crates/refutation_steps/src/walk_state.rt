@@ -1,5 +1,5 @@
 //! What a walk over the tokens of a refutation holds.
-use crate::chain_steps::ChainRoom;
+use crate::chain_steps::ChainScratch;
 use crate::pending::Pending;
 use edge_state::EdgeState;
 use line_proofs::StepList;
@@ -13,7 +13,7 @@ pub struct Walk {
     pub state: EdgeState,
     pub given: EdgeState,
     pub closer: Closer,
-    pub room: ChainRoom,
+    pub room: ChainScratch,
     pub pending: Vec<Pending>,
     pub lines: StepList,
 }

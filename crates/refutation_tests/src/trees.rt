@@ -32,7 +32,7 @@ fn drawn_is_checked(alloc: Global, random: &mut u32, round: u32) -> Result<Optio
 }
 
 #[test]
-fn what_the_search_refutes_is_accepted(rt: HostRuntime) -> Result<(), Fail> {
+fn checker_accepts_refutations_of_the_search(rt: HostRuntime) -> Result<(), Fail> {
     let mut random = 7;
     let mut found = 0u32;
     for round in 0..120u32 {

@@ -18,7 +18,7 @@ use Rattle.edge_state.proofs.RowDerived.{row_extends}
 use Rattle.edge_state.proofs.RowExclusions.{row_keeps, row_takes}
 use Rattle.edge_state.proofs.RowSteps.{box_apart}
 use Rattle.closure_terms.specs.States.{IsSized, HasEmptyMask}
-use Rattle.closure_terms.specs.Passes.{IsPass, IsShut}
+use Rattle.closure_terms.specs.Passes.{IsPass, IsChainChecked}
 use Rattle.closure_terms.proofs.Passes.{shut_kept}
 
 -- a box that isn't beyond the limit beside u, or that u isn't before, has nothing to be excluded
@@ -26,9 +26,9 @@ pub shut_off : (instance : PlainInstance) (i n limit : ℕ) (head tail : List �
     (row out : Bool) → v < n → limit ≡ container_side instance i
     → row ≡ is_other_box n u v && not (excludes es i u v Before)
     → out ≡ row && ltb limit (slice_index head u + slice_index tail v) → out ≡ false
-    → IsShut instance i head tail u v es
+    → IsChainChecked instance i head tail u v es
 shut_off instance i n limit head tail u v es row out hv same is beyond off = record {
-  shut = λ ne wide. row_shut n i u v (excludes es) Before row hv ne is (not_in wide);
+  exclude_if_too_long = λ ne wide. row_shut n i u v (excludes es) Before row hv ne is (not_in wide);
 }
   where
     not_in : container_side instance i < slice_index head u + slice_index tail v → row ≡ false
@@ -63,15 +63,15 @@ module _ (instance : PlainInstance) (a : PlainEdges) (i limit : ℕ) (head tail 
   -- CHAIN at each member, from the weights before the row
   pub chain_row : (b : PlainEdges) → AreHeads instance (excludes a.trail) i head
       → AreTails instance (excludes a.trail) i tail → b ≡ record a { trail = with_row a.trail i u Before out a.boxes }
-      → IsPass instance a b (λ es. (v : ℕ) → v < box_count instance → IsShut instance i head tail u v es)
+      → IsPass instance a b (λ es. (v : ℕ) → v < box_count instance → IsChainChecked instance i head tail u v es)
   chain_row b heads tails e = record {
     same_dims = ap (λ (q : PlainEdges). q.dims) e;
     same_boxes = ap (λ (q : PlainEdges). q.boxes) e;
-    same_room = ap (λ (q : PlainEdges). q.room) e;
+    same_box_capacity = ap (λ (q : PlainEdges). q.room) e;
     extends = subst (λ (es : List Exclusion). Extends instance a.trail es) (sym trail_is)
         (row_extends instance a.trail i u Before out a.boxes (λ v l on. (edge v on, at v on)));
-    done = subst (λ (es : List Exclusion). (v : ℕ) → v < box_count instance → IsShut instance i head tail u v es)
-        (sym trail_is) (λ v hv. shut v hv (cases_Bool (out v)));
+    done = subst (λ (es : List Exclusion). (v : ℕ) → v < box_count instance → IsChainChecked instance i head tail u v es)
+        (sym trail_is) (λ v hv. exclude_if_too_long v hv (cases_Bool (out v)));
   }
     where
       trail_is : b.trail ≡ with_row a.trail i u Before out a.boxes
@@ -84,13 +84,13 @@ module _ (instance : PlainInstance) (a : PlainEdges) (i limit : ℕ) (head tail 
           follows instance (excludes a.trail) i u v (slice_index head u) (slice_index tail v) (edge v on) (heads u hu)
           (tails v (edge v on).second) (omega (arith, far, same))
 
-      shut : (v : ℕ) → v < box_count instance → (out v ≡ true) ⊎ (out v ≡ false)
-          → IsShut instance i head tail u v (with_row a.trail i u Before out a.boxes)
-      shut v hv (inl on) = record {
-        shut = λ ne wide. row_takes i u Before a.trail out a.boxes i u v Before
+      exclude_if_too_long : (v : ℕ) → v < box_count instance → (out v ≡ true) ⊎ (out v ≡ false)
+          → IsChainChecked instance i head tail u v (with_row a.trail i u Before out a.boxes)
+      exclude_if_too_long v hv (inl on) = record {
+        exclude_if_too_long = λ ne wide. row_takes i u Before a.trail out a.boxes i u v Before
             (taken_at v (omega (arith, hv, sizes.same_boxes)) on);
       }
-      shut v hv (inr off) = shut_kept instance i head tail u v a.trail _ (row_keeps i u Before a.trail out a.boxes)
+      exclude_if_too_long v hv (inr off) = shut_kept instance i head tail u v a.trail _ (row_keeps i u Before a.trail out a.boxes)
           (shut_off instance i a.boxes limit head tail u v a.trail (row v) (out v) (omega (arith, hv, sizes.same_boxes))
           same (is v) (beyond v) off)
 

@@ -9,7 +9,7 @@ use Rattle.packing_terms.specs.Relations.{mirror}
 use Rattle.packing_terms.specs.Exclusions.{Exclusions, excludes}
 use Rattle.packing_terms.specs.Rules.{Rule, Compose, IsRuleInstance, Premises}
 use Rattle.edge_state.specs.Edges.{PlainEdges}
-use Rattle.closure_terms.specs.Work.{IsWorked, IsCovered, IsDueAt, IsDue}
+use Rattle.closure_terms.specs.Work.{HasApplied, IsCovered, IsDueAt, IsDue}
 use Rattle.closure_terms.specs.Instances.{DueAll, Composes, OrdersCrossed}
 use Rattle.closure_terms.proofs.Instances.{worked_reached}
 use Rattle.closure_terms.proofs.Members.{covered_named}
@@ -19,11 +19,11 @@ use Rattle.rule_passes.specs.Reached.{IsReachedApart, IsReachedJoined, IsReached
 -- more instances, where those that come in have no premises
 worked_unless : (instance : PlainInstance) (a b : PlainEdges) (lost : Bool) (R S : Rule → Type 0)
     → ((rule : Rule) → S rule → R rule ⊎ (IsRuleInstance instance rule → Premises instance (excludes a.trail) rule → ⊥))
-    → IsWorked instance a b lost R → IsWorked instance a b lost S
+    → HasApplied instance a b lost R → HasApplied instance a b lost S
 worked_unless instance a b lost R S f h = record {
   same_dims = h.same_dims;
   same_boxes = h.same_boxes;
-  same_room = h.same_room;
+  same_box_capacity = h.same_box_capacity;
   extends = h.extends;
   empty = h.empty;
   done = λ e rule s. covered_if instance (excludes a.trail) b.trail rule (λ is. go e rule is (f rule s));
@@ -38,11 +38,11 @@ worked_unless instance a b lost R S f h = record {
 -- more instances, where those that come in had nothing to add before
 pub worked_beside : (instance : PlainInstance) (a b : PlainEdges) (lost : Bool) (R S : Rule → Type 0)
     → ((rule : Rule) → S rule → R rule ⊎ IsCovered instance (excludes a.trail) a.trail rule)
-    → IsWorked instance a b lost R → IsWorked instance a b lost S
+    → HasApplied instance a b lost R → HasApplied instance a b lost S
 worked_beside instance a b lost R S f h = record {
   same_dims = h.same_dims;
   same_boxes = h.same_boxes;
-  same_room = h.same_room;
+  same_box_capacity = h.same_box_capacity;
   extends = h.extends;
   empty = h.empty;
   done = λ e rule s. go e rule (f rule s);
@@ -157,8 +157,8 @@ DueBoth instance fresh j u v rule =
 
 -- the instances that are due for the edge are those that it reaches, in both orders
 worked_due_both : (instance : PlainInstance) (s t : PlainEdges) (lost : Bool) (fresh : Rel → Bool) (j u v : ℕ)
-    → IsWorked instance s t lost (DueBoth instance fresh j u v)
-    → IsWorked instance s t lost (IsDue fresh j u v)
+    → HasApplied instance s t lost (DueBoth instance fresh j u v)
+    → HasApplied instance s t lost (IsDue fresh j u v)
 worked_due_both instance s t lost fresh j u v h =
     let one = worked_reached instance s t lost fresh j u v
     (worked_as instance s t lost (DueBoth instance fresh j u v)
@@ -169,7 +169,7 @@ worked_due_both instance s t lost fresh j u v h =
     record {
       same_dims = h.same_dims;
       same_boxes = h.same_boxes;
-      same_room = h.same_room;
+      same_box_capacity = h.same_box_capacity;
       extends = h.extends;
       empty = h.empty;
       done = λ e rule r. go (one.done e) (two.done e) rule r;
@@ -190,8 +190,8 @@ pub worked_guarded : (instance : PlainInstance) (s t : PlainEdges) (lost : Bool)
     → a ≡ not (excludes s.trail j u v After)
     → o2 ≡ not (excludes s.trail j v u Overlap) → b2 ≡ not (excludes s.trail j v u Before)
     → a2 ≡ not (excludes s.trail j v u After) → o2 ≡ o
-    → IsWorked instance s t lost (GuardedBoth instance j u v stale o b a o2 b2 a2)
-    → IsWorked instance s t lost (IsDue (λ r. not (stale r)) j u v)
+    → HasApplied instance s t lost (GuardedBoth instance j u v stale o b a o2 b2 a2)
+    → HasApplied instance s t lost (IsDue (λ r. not (stale r)) j u v)
 worked_guarded instance s t lost j u v stale o b a o2 b2 a2 at ho hb ha ho2 hb2 ha2 e h =
     worked_due_both instance s t lost (λ r. not (stale r)) j u v
     (worked_unless instance s t lost (GuardedBoth instance j u v stale o b a o2 b2 a2)
@@ -227,8 +227,8 @@ pub worked_rows : (instance : PlainInstance) (a b : PlainEdges) (lost : Bool) (n
     (named also : ℕ → Rule)
     → ((x : ℕ) → x < n → row x ≡ false → IsCovered instance (excludes a.trail) a.trail (named x))
     → ((x : ℕ) → x < n → other x ≡ false → IsCovered instance (excludes a.trail) a.trail (also x))
-    → IsWorked instance a b lost (λ rule. Among n row named rule ⊎ Among n other also rule)
-    → IsWorked instance a b lost (λ rule. ((x : ℕ) × (x < n) × (rule ≡ named x))
+    → HasApplied instance a b lost (λ rule. Among n row named rule ⊎ Among n other also rule)
+    → HasApplied instance a b lost (λ rule. ((x : ℕ) × (x < n) × (rule ≡ named x))
     ⊎ ((x : ℕ) × (x < n) × (rule ≡ also x)))
 worked_rows instance a b lost n row other named also f k h =
     worked_beside instance a b lost (λ rule. Among n row named rule ⊎ Among n other also rule)
@@ -254,7 +254,7 @@ pub worked_no_rows : (instance : PlainInstance) (s : PlainEdges) (n : ℕ) (row 
     → ((x : ℕ) → x < n → row x ≡ false → IsCovered instance (excludes s.trail) s.trail (named x))
     → ((x : ℕ) → x < n → other x ≡ false → IsCovered instance (excludes s.trail) s.trail (also x))
     → ((x : ℕ) → (row x ≡ false) × (other x ≡ false))
-    → IsWorked instance s s false (λ rule. ((x : ℕ) × (x < n) × (rule ≡ named x))
+    → HasApplied instance s s false (λ rule. ((x : ℕ) × (x < n) × (rule ≡ named x))
     ⊎ ((x : ℕ) × (x < n) × (rule ≡ also x)))
 worked_no_rows instance s n row other named also f k none =
     worked_none instance s (λ rule. ((x : ℕ) × (x < n) × (rule ≡ named x)) ⊎ ((x : ℕ) × (x < n) × (rule ≡ also x)))
@@ -272,7 +272,7 @@ pub none_composed : (instance : PlainInstance) (s : PlainEdges) (row other : ℕ
     → ((x : ℕ) → x < box_count instance → other x ≡ false → HasNoEmptyMask instance (excludes s.trail)
     → IsCovered instance (excludes s.trail) s.trail (Compose j v u x))
     → ((x : ℕ) → (row x ≡ false) × (other x ≡ false))
-    → IsWorked instance s s false (λ rule. HasNoEmptyMask instance (excludes s.trail)
+    → HasApplied instance s s false (λ rule. HasNoEmptyMask instance (excludes s.trail)
     × (Composes instance j u v rule ⊎ Composes instance j v u rule))
 none_composed instance s row other j u v f k none =
     worked_none instance s (λ rule. HasNoEmptyMask instance (excludes s.trail)

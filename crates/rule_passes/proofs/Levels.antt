@@ -11,10 +11,10 @@ use Rattle.rule_terms.specs.Runs.{AreHeaviestHeads, AreHeaviestTails}
 use Rattle.rule_terms.proofs.Applied.{extends_trans}
 use Rattle.edge_state.specs.Edges.{PlainEdges}
 use Rattle.closure_terms.specs.States.{HasEmptyMask}
-use Rattle.closure_terms.specs.Work.{IsChainIn, IsWorked}
+use Rattle.closure_terms.specs.Work.{IsChainIn, HasApplied}
 use Rattle.closure_terms.proofs.Passes.{pass_as, worked_heaviest}
-use Rattle.closure_terms.specs.Passes.{IsPass, IsShut}
-use Rattle.orientation_rules.specs.KeptWeights.{PlainLevels}
+use Rattle.closure_terms.specs.Passes.{IsPass, IsChainChecked}
+use Rattle.orientation_rules.specs.CachedChainWeights.{PlainLevels}
 use Rattle.orientation_rules.proofs.KeptRuns.{each_more}
 use Rattle.rule_passes.specs.Rooms.{HaveEach}
 
@@ -59,7 +59,7 @@ pub pass_lost : (instance : PlainInstance) (a b c : PlainEdges) (lost : Bool) (P
 pass_lost instance a b c lost P Q R e h k = record {
   same_dims = k.same_dims ∙ h.same_dims;
   same_boxes = k.same_boxes ∙ h.same_boxes;
-  same_room = k.same_room ∙ h.same_room;
+  same_box_capacity = k.same_box_capacity ∙ h.same_box_capacity;
   extends = extends_trans _ _ _ _ h.extends k.extends;
   done = λ f. absurd (true≢false (sym e ∙ f));
 }
@@ -68,12 +68,12 @@ pass_lost instance a b c lost P Q R e h k = record {
 pub worked_chains : (instance : PlainInstance) (a b : PlainEdges) (lost : Bool) (i : ℕ) (head tail : List ℕ)
     → AreHeaviestHeads instance (excludes a.trail) i head → AreHeaviestTails instance (excludes a.trail) i tail
     → IsPass instance a b (λ es. lost ≡ false → (u : ℕ) → u < box_count instance → (v : ℕ) → v < box_count instance
-    → IsShut instance i head tail u v es)
-    → (lost ≡ true → HasEmptyMask instance (excludes b.trail)) → IsWorked instance a b lost (IsChainIn i)
+    → IsChainChecked instance i head tail u v es)
+    → (lost ≡ true → HasEmptyMask instance (excludes b.trail)) → HasApplied instance a b lost (IsChainIn i)
 worked_chains instance a b true i head tail heads tails h empty = record {
   same_dims = h.same_dims;
   same_boxes = h.same_boxes;
-  same_room = h.same_room;
+  same_box_capacity = h.same_box_capacity;
   extends = h.extends;
   empty = λ e. empty e;
   done = λ e. absurd (true≢false e);

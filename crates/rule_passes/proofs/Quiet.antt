@@ -19,7 +19,7 @@ use Rattle.edge_state.specs.Edges.{PlainEdges}
 use Rattle.edge_state.proofs.Tables.{excludes_mirror}
 use Rattle.closure_terms.specs.Instances.{Composes, Cycles, OrdersCrossed}
 use Rattle.closure_terms.specs.States.{HasEmptyMask}
-use Rattle.closure_terms.specs.Work.{IsWorked, IsCovered, IsDue}
+use Rattle.closure_terms.specs.Work.{HasApplied, IsCovered, IsDue}
 use Rattle.closure_terms.proofs.Worked.{worked_none, worked_applied}
 use Rattle.orientation_rules.proofs.Keeps.{rest_drops, rest_only}
 use Rattle.rule_passes.specs.Reached.{IsReachedOrdered, IsReachedBoth, IsReachedLater}
@@ -31,16 +31,16 @@ covered_apart_back : (instance : PlainInstance) (old es : List Exclusion) (i u v
     → IsCovered instance (excludes old) es (Apart i u v) → IsCovered instance (excludes old) es (Apart i v u)
 covered_apart_back instance old es i u v h = record { holds = λ k a b r add. go k a b r add }
   where
-    shut : IsRuleInstance instance (Apart i v u) → Premises instance (excludes old) (Apart i v u)
+    exclude_if_too_long : IsRuleInstance instance (Apart i v u) → Premises instance (excludes old) (Apart i v u)
         → excludes es i u v Overlap ≡ true
-    shut is p = h.holds i u v Overlap
+    exclude_if_too_long is p = h.holds i u v Overlap
         (added Overlap (is.0, (is.1.2.0, (λ e. is.1.1.0 (sym e), tt), (is.1.0, tt, tt)))
         (λ j l ne. joined_back old j v u (p j l ne)) refl)
 
     go : (k a b : ℕ) (r : Rel) → Adds instance (excludes old) (Apart i v u) k a b r → excludes es k a b r ≡ true
     go _ _ _ _ (added r is p c) = subst (λ (s : Rel). excludes es i v u s ≡ true) (sym c)
-        (excludes_symmetric es i u v Overlap (shut is p))
-    go _ _ _ _ (mirror_added r is p c) = subst (λ (s : Rel). excludes es i u v (mirror s) ≡ true) (sym c) (shut is p)
+        (excludes_symmetric es i u v Overlap (exclude_if_too_long is p))
+    go _ _ _ _ (mirror_added r is p c) = subst (λ (s : Rel). excludes es i u v (mirror s) ≡ true) (sym c) (exclude_if_too_long is p)
 
 named_apart : (instance : PlainInstance) (old es : List Exclusion) (rule : Rule) (i u v : ℕ) → rule ≡ Apart i v u
     → IsCovered instance (excludes old) es (Apart i u v) → IsCovered instance (excludes old) es rule
@@ -67,7 +67,7 @@ module _ (instance : PlainInstance) (a b : PlainEdges) (i u v : ℕ) (edge : IsE
   grown = ap (λ (s : PlainEdges). s.trail) e
 
   -- overlap is excluded of boxes that are joined in each other dimension: APART was applied
-  pub worked_apart : IsWorked instance a b false (λ rule. rule ≡ Apart i u v)
+  pub worked_apart : HasApplied instance a b false (λ rule. rule ≡ Apart i u v)
   worked_apart =
       worked_applied instance a b (is_narrowed a.trail i u v keep) (Apart i u v)
       (e ∙ ap (λ (l : List Exclusion). record a { trail = l }) (sym grown))
@@ -79,12 +79,12 @@ module _ (instance : PlainInstance) (a b : PlainEdges) (i u v : ℕ) (edge : IsE
 
 -- the same where a mask may be empty then
 pub worked_emptied : (instance : PlainInstance) (a b : PlainEdges) (lost : Bool) (R : Rule → Type 0) (P : Type 0)
-    → MatchBool lost (HasEmptyMask instance (excludes b.trail)) P → IsWorked instance a b false R
-    → IsWorked instance a b lost R
+    → MatchBool lost (HasEmptyMask instance (excludes b.trail)) P → HasApplied instance a b false R
+    → HasApplied instance a b lost R
 worked_emptied instance a b true R P h w = record {
   same_dims = w.same_dims;
   same_boxes = w.same_boxes;
-  same_room = w.same_room;
+  same_box_capacity = w.same_box_capacity;
   extends = w.extends;
   empty = λ f. h;
   done = λ f. absurd (true≢false f);
@@ -94,17 +94,17 @@ worked_emptied instance a b false R P h w = w
 -- nothing is to be done for joined, ordered and not before
 pub none_both : (instance : PlainInstance) (s : PlainEdges) (j u v : ℕ) (left turned stale : Rel → Bool)
     → ((r : Rel) → turned r ≡ left (mirror r))
-    → IsWorked instance s s false (λ rule. ((left Before ≡ false) × (left After ≡ false))
+    → HasApplied instance s s false (λ rule. ((left Before ≡ false) × (left After ≡ false))
     × (Cycles instance j u v rule ⊎ Cycles instance j v u rule))
-    → IsWorked instance s s false (λ rule. ((left Overlap ≡ false) × (left After ≡ false))
+    → HasApplied instance s s false (λ rule. ((left Overlap ≡ false) × (left After ≡ false))
     × IsReachedOrdered instance j u v rule)
-    → IsWorked instance s s false (λ rule. ((left Before ≡ false) × (stale Before ≡ false))
+    → HasApplied instance s s false (λ rule. ((left Before ≡ false) × (stale Before ≡ false))
     × OrdersCrossed instance j u v rule)
-    → IsWorked instance s s false (λ rule. ((turned Overlap ≡ false) × (turned After ≡ false))
+    → HasApplied instance s s false (λ rule. ((turned Overlap ≡ false) × (turned After ≡ false))
     × IsReachedOrdered instance j v u rule)
-    → IsWorked instance s s false (λ rule. ((turned Before ≡ false) × (stale After ≡ false))
+    → HasApplied instance s s false (λ rule. ((turned Before ≡ false) × (stale After ≡ false))
     × OrdersCrossed instance j v u rule)
-    → IsWorked instance s s false (IsReachedBoth instance j u v left turned stale)
+    → HasApplied instance s s false (IsReachedBoth instance j u v left turned stale)
 none_both instance s j u v left turned stale e joined first crossed second back =
     worked_none instance s (IsReachedBoth instance j u v left turned stale) (λ rule r. go rule r)
   where
@@ -121,15 +121,15 @@ none_both instance s j u v left turned stale e joined first crossed second back 
 pub worked_pieces : (instance : PlainInstance) (s t : PlainEdges) (lost : Bool) (j u v : ℕ)
     (left turned stale : Rel → Bool) → j < dims instance → ((r : Rel) → left r ≡ not (excludes s.trail j u v r))
     → ((r : Rel) → turned r ≡ left (mirror r))
-    → IsWorked instance s t lost (λ rule. (HasNoEmptyMask instance (excludes s.trail)
+    → HasApplied instance s t lost (λ rule. (HasNoEmptyMask instance (excludes s.trail)
     × (Composes instance j u v rule ⊎ Composes instance j v u rule))
     ⊎ IsReachedLater instance j u v left turned stale rule)
-    → IsWorked instance s t lost (λ rule. HasNoEmptyMask instance (excludes s.trail)
+    → HasApplied instance s t lost (λ rule. HasNoEmptyMask instance (excludes s.trail)
     × IsDue (λ r. not (stale r)) j u v rule)
 worked_pieces instance s t lost j u v left turned stale there hl ht h = record {
   same_dims = h.same_dims;
   same_boxes = h.same_boxes;
-  same_room = h.same_room;
+  same_box_capacity = h.same_box_capacity;
   extends = h.extends;
   empty = h.empty;
   done = λ e rule r. (all r.0).done e rule r.1;
@@ -160,14 +160,14 @@ worked_pieces instance s t lost j u v left turned stale there hl ht h = record {
     go full done rule (inr (inl (inr r))) = done rule (inr (inr (inr (inr (inr (inl (inr r)))))))
     go full done rule (inr (inr r)) = done rule (inr (inr (inr (inr (inr (inr r))))))
 
-    all : HasNoEmptyMask instance (excludes s.trail) → IsWorked instance s t lost (IsDue (λ r. not (stale r)) j u v)
+    all : HasNoEmptyMask instance (excludes s.trail) → HasApplied instance s t lost (IsDue (λ r. not (stale r)) j u v)
     all full = worked_guarded instance s t lost j u v stale (left Overlap) (left Before) (left After) (turned Overlap)
         (turned Before) (turned After) there (hl Overlap) (hl Before) (hl After) (back Overlap) (back Before) (back After)
         (ht Overlap)
         (record {
           same_dims = h.same_dims;
           same_boxes = h.same_boxes;
-          same_room = h.same_room;
+          same_box_capacity = h.same_box_capacity;
           extends = h.extends;
           empty = h.empty;
           done = λ e rule r. go full (h.done e) rule r;

@@ -17,7 +17,7 @@ use Rattle.edge_state.proofs.Kept.{row_open, row_shut, open_is}
 use Rattle.edge_state.proofs.RowSteps.{box_apart}
 use Rattle.edge_state.proofs.Tables.{other_from}
 use Rattle.closure_terms.proofs.Filters.{minus_off}
-use Rattle.closure_terms.specs.Work.{IsWorked, IsCovered}
+use Rattle.closure_terms.specs.Work.{HasApplied, IsCovered}
 use Rattle.closure_terms.proofs.Worked.{worked_as, worked_then}
 use Rattle.rule_passes.specs.Reached.{NoRule, composed}
 use Rattle.rule_passes.proofs.RowStates.{other_there}
@@ -25,11 +25,11 @@ use Rattle.rule_passes.proofs.RowStates.{other_there}
 -- exclusions came on top by which these instances are covered
 pub worked_from : (instance : PlainInstance) (a b : PlainEdges) (lost : Bool) (R : Rule → Type 0)
     → (lost ≡ false → (rule : Rule) → R rule → IsCovered instance (excludes a.trail) b.trail rule)
-    → IsWorked instance a b lost NoRule → IsWorked instance a b lost R
+    → HasApplied instance a b lost NoRule → HasApplied instance a b lost R
 worked_from instance a b lost R f h = record {
   same_dims = h.same_dims;
   same_boxes = h.same_boxes;
-  same_room = h.same_room;
+  same_box_capacity = h.same_box_capacity;
   extends = h.extends;
   empty = h.empty;
   done = f;
@@ -203,8 +203,8 @@ composed_allowed After q left row gone hq on = outer (or_cases _ _ on)
     outer (inr h) = by q hq h
 
 -- one after the other
-pub none_then : (instance : PlainInstance) (a b c : PlainEdges) (lost : Bool) → IsWorked instance a b false NoRule
-    → IsWorked instance b c lost NoRule → IsWorked instance a c lost NoRule
+pub none_then : (instance : PlainInstance) (a b c : PlainEdges) (lost : Bool) → HasApplied instance a b false NoRule
+    → HasApplied instance b c lost NoRule → HasApplied instance a c lost NoRule
 none_then instance a b c lost h k =
     worked_as instance a c lost (λ rule. NoRule rule ⊎ NoRule rule) NoRule (λ rule none. absurd none)
     (worked_then instance a b c lost NoRule NoRule h k)

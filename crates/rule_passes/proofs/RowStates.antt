@@ -14,7 +14,7 @@ use Rattle.edge_state.proofs.RowDerived.{row_extends}
 use Rattle.edge_state.proofs.RowExclusions.{row_keeps, row_takes}
 use Rattle.edge_state.proofs.RowSteps.{edge_of, box_apart}
 use Rattle.closure_terms.specs.States.{IsSized, HasEmptyMask}
-use Rattle.closure_terms.specs.Work.{IsWorked}
+use Rattle.closure_terms.specs.Work.{HasApplied}
 use Rattle.rule_passes.specs.Reached.{NoRule}
 
 -- another box is there
@@ -46,11 +46,11 @@ pub row_worked : (instance : PlainInstance) (a b : PlainEdges) (i u : ℕ) (r : 
     → b ≡ record a { trail = with_row a.trail i u r row a.boxes } → IsSized instance a i → u < box_count instance
     → ((v : ℕ) → row v ≡ true → is_other_box (box_count instance) u v ≡ true)
     → ((v : ℕ) → row v ≡ true → Follows instance (excludes a.trail) i u v r)
-    → (lost ≡ true → HasEmptyAt (excludes b.trail) i u row) → IsWorked instance a b lost NoRule
+    → (lost ≡ true → HasEmptyAt (excludes b.trail) i u row) → HasApplied instance a b lost NoRule
 row_worked instance a b i u r row lost e sizes hu other follows empty = record {
   same_dims = ap (λ (s : PlainEdges). s.dims) e;
   same_boxes = ap (λ (s : PlainEdges). s.boxes) e;
-  same_room = ap (λ (s : PlainEdges). s.room) e;
+  same_box_capacity = ap (λ (s : PlainEdges). s.room) e;
   extends = rw e (row_extends instance a.trail i u r row a.boxes (λ v l on. (edge v on, follows v on)));
   empty = λ h. empty_at instance (excludes b.trail) i u row sizes.there hu other (empty h);
   done = λ h rule none. absurd none;

@@ -8,8 +8,8 @@ use Rattle.packing_terms.specs.Rules.{Rule, Apart, Triple, Cycle, Order}
 use Rattle.closure_terms.specs.Instances.{OrdersCrossed, Aparts, Cycles, Chords, Triples}
 
 -- no box is longer
-abbrev pub HasNoLonger : PlainInstance → ℕ → ℕ → Type 0
-HasNoLonger instance i most = (v : ℕ) → v < box_count instance → side instance v i ≤ most
+abbrev pub BoundsSides : PlainInstance → ℕ → ℕ → Type 0
+BoundsSides instance i most = (v : ℕ) → v < box_count instance → side instance v i ≤ most
 
 -- no instance
 abbrev pub NoRule : Rule → Type 0

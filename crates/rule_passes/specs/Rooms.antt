@@ -1,10 +1,10 @@
 -- What the working room of a closing is seen as, and what its type keeps.
 use Rattle.std.specs.Prelude.{ℕ, nat_lt, min, ◌≡◌, ◌<◌, ◌≤◌, List, length, slice_index_or}
 use Rattle.edge_state.specs.BitRows.{row_has}
-use Rattle.orientation_rules.specs.KeptWeights.{PlainLevels}
+use Rattle.orientation_rules.specs.CachedChainWeights.{PlainLevels}
 
 -- the sizes of the states that are closed in it, and how many boxes it was made for
-pub record PlainRoom : Type 0 where
+pub record PlainPropagator : Type 0 where
   pub dims : ℕ
   pub boxes : ℕ
   pub most : ℕ

@@ -137,7 +137,7 @@ pub(crate) fn uncomposed<const K: usize>(
         → is_other_box (box_count instance.now) u x ≡ true }
     ensures follows { (x : ℕ) → row_has result x ≡ true
         → Follows instance.now (excludes state.now.trail) dim u x rel }
-    ensures shut { (x : ℕ) → row_has result x ≡ false
+    ensures exclude_if_too_long { (x : ℕ) → row_has result x ≡ false
         → ((q : PlainRel) × (mask_has left q ≡ true))
         → ((s : PlainRel) × (excludes state.now.trail dim v x s ≡ false))
         → IsRuleInstance instance.now (Compose dim u v x)

@@ -6,13 +6,13 @@ ghost use Rattle.rule_terms.specs.Places.{HasNoEmptyMask};
 ghost use Rattle.rule_terms.specs.Runs.{AreHeads, AreTails, IsTransitive};
 ghost use Rattle.edge_state.specs.BitRows.{HoldsBoxes};
 ghost use Rattle.closure_terms.specs.States.{IsSized, HasEmptyMask};
-ghost use Rattle.closure_terms.specs.Work.{IsChainIn, IsWorked};
-ghost use Rattle.closure_terms.specs.Passes.{IsPass, IsShut};
+ghost use Rattle.closure_terms.specs.Work.{IsChainIn, HasApplied};
+ghost use Rattle.closure_terms.specs.Passes.{IsPass, IsChainChecked};
 
 use crate::rows::is_empty;
 use box_instances::Instance;
 use edge_state::{EdgeState, Rel};
-use orientation_rules::KeptLevels;
+use orientation_rules::ChainWeightCache;
 
 // CHAIN at box `u` and all boxes that it may be before. Returns whether that empties a mask. It
 // excludes the whole row at once, so the weights have to be those of the state before the row alone.
@@ -22,7 +22,7 @@ fn shut_from<const K: usize>(
     state: &mut EdgeState,
     dim: u32,
     u: u32,
-    kept: &mut KeptLevels<K>,
+    kept: &mut ChainWeightCache<K>,
 ) -> bool
     requires words { HoldsBoxes K (box_count instance.now) }
     requires sizes { IsSized instance.now state.old dim }
@@ -36,7 +36,7 @@ fn shut_from<const K: usize>(
     ensures kept { kept.new ≡ kept.old }
     ensures pass { IsPass instance.now state.old state.new (λ es. (v : ℕ)
         → v < box_count instance.now
-        → IsShut instance.now dim kept.old.weights.head kept.old.weights.tail u v es) }
+        → IsChainChecked instance.now dim kept.old.weights.head kept.old.weights.tail u v es) }
     ensures empty { result ≡ true → HasEmptyMask instance.now (excludes state.new.trail) }
 {
     let before = state.row_in::<K>(dim, u, Rel::Before);
@@ -54,7 +54,7 @@ fn shut_all<const K: usize>(
     instance: &Instance,
     state: &mut EdgeState,
     dim: u32,
-    kept: &mut KeptLevels<K>,
+    kept: &mut ChainWeightCache<K>,
 ) -> bool
     requires words { HoldsBoxes K (box_count instance.now) }
     requires sizes { IsSized instance.now state.old dim }
@@ -67,7 +67,7 @@ fn shut_all<const K: usize>(
     ensures kept { kept.new ≡ kept.old }
     ensures pass { IsPass instance.now state.old state.new (λ es. result ≡ false → (u : ℕ)
         → u < box_count instance.now → (v : ℕ) → v < box_count instance.now
-        → IsShut instance.now dim kept.old.weights.head kept.old.weights.tail u v es) }
+        → IsChainChecked instance.now dim kept.old.weights.head kept.old.weights.tail u v es) }
     ensures empty { result ≡ true → HasEmptyMask instance.now (excludes state.new.trail) }
 {
     for u in 0..instance.len() {
@@ -81,11 +81,11 @@ fn shut_all<const K: usize>(
 /// CHAIN in one dimension, at all pairs, with weights that are made from those that were kept and
 /// are kept then. Answers whether a mask is empty; it stops there. Surely before is transitive in
 /// this dimension, and no mask is empty at first.
-pub(crate) fn cover_chains<const K: usize>(
+pub(crate) fn propagate_chains<const K: usize>(
     instance: &Instance,
     state: &mut EdgeState,
     dim: u32,
-    kept: &mut KeptLevels<K>,
+    kept: &mut ChainWeightCache<K>,
 ) -> bool
     requires words { HoldsBoxes K (box_count instance.now) }
     requires sizes { IsSized instance.now state.old dim }
@@ -95,8 +95,8 @@ pub(crate) fn cover_chains<const K: usize>(
         (excludes state.old.trail) dim) }
     ensures room { kept.new.boxes ≡ kept.old.boxes }
     ensures most { kept.new.most ≡ kept.old.most }
-    ensures worked { IsWorked instance.now state.old state.new result (IsChainIn dim) }
+    ensures worked { HasApplied instance.now state.old state.new result (IsChainIn dim) }
 {
-    kept.renew(instance, state, dim);
+    kept.update_from_cache(instance, state, dim);
     shut_all(instance, state, dim, kept)
 }

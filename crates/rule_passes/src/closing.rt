@@ -8,18 +8,18 @@ ghost use Rattle.rule_terms.specs.Places.{HasNoEmptyMask};
 ghost use Rattle.edge_state.specs.BitRows.{IsRowWidth, HoldsBoxes, row_has};
 ghost use Rattle.edge_state.specs.Edges.{oldest};
 ghost use Rattle.closure_terms.specs.States.{HasEmptyMask};
-ghost use Rattle.closure_terms.specs.Work.{IsUpToDate, IsChained};
+ghost use Rattle.closure_terms.specs.Work.{IsUpToDate, IsChainUpToDate};
 ghost use Rattle.rule_passes.specs.Rooms.{AreKept, AreMade};
 
-use crate::chains::cover_chains;
-use crate::settle::settle;
+use crate::chains::propagate_chains;
+use crate::worklist::drain_worklist;
 use box_instances::Instance;
-use early_chains::Guess;
+use early_chains::ChainEstimates;
 use edge_state::{BitRow, EdgeState, Mark};
-use orientation_rules::KeptLevels;
+use orientation_rules::ChainWeightCache;
 
 // Begins a closing in each dimension.
-fn begin_each<const K: usize>(kept: &mut [KeptLevels<K>])
+fn begin_each<const K: usize>(kept: &mut [ChainWeightCache<K>])
     ensures { kept.new ≡ kept.old }
 {
     for dim in 0..kept.len() {
@@ -28,7 +28,7 @@ fn begin_each<const K: usize>(kept: &mut [KeptLevels<K>])
 }
 
 // Ends a closing in each dimension, and keeps the weights that it came to.
-fn finish_each<const K: usize>(kept: &mut [KeptLevels<K>])
+fn finish_each<const K: usize>(kept: &mut [ChainWeightCache<K>])
     requires { IsRowWidth K }
     ensures kept { (d n : ℕ) → AreKept d n kept.old → AreKept d n kept.new }
     ensures made { (d most : ℕ) → AreMade d most kept.old → AreMade d most kept.new }
@@ -41,12 +41,12 @@ fn finish_each<const K: usize>(kept: &mut [KeptLevels<K>])
 /// Goes along what changed after a position of the list, then over CHAIN in the dimensions where
 /// two boxes became ordered, and again along what that changed, until nothing is left or a mask is
 /// empty, which the answer tells.
-pub(crate) fn close_with<const K: usize>(
+pub(crate) fn run_to_fixpoint<const K: usize>(
     instance: &Instance,
     state: &mut EdgeState,
     all: BitRow<K>,
-    kept: &mut [KeptLevels<K>],
-    guess: &mut Guess,
+    kept: &mut [ChainWeightCache<K>],
+    guess: &mut ChainEstimates,
     closed: Mark,
 ) -> bool
     requires words { HoldsBoxes K (box_count instance.now) }
@@ -57,7 +57,7 @@ pub(crate) fn close_with<const K: usize>(
     requires mark { closed ≤ length state.old.trail }
     requires settled { IsUpToDate instance.now
         (oldest closed state.old.trail) state.old.trail }
-    requires chained { (i : ℕ) → i < dims instance.now → IsChained instance.now i
+    requires chained { (i : ℕ) → i < dims instance.now → IsChainUpToDate instance.now i
         (oldest closed state.old.trail) state.old.trail }
     ensures kept { AreKept (dims instance.now) (box_count instance.now) kept.new }
     ensures made { (most : ℕ) → AreMade (dims instance.now) most kept.old
@@ -70,18 +70,18 @@ pub(crate) fn close_with<const K: usize>(
 {
     begin_each(kept);
     guess.begin(closed);
-    let Some(first) = settle(instance, state, all, closed, BitRow::empty(), guess) else {
+    let Some(first) = drain_worklist(instance, state, all, closed, BitRow::empty(), guess) else {
         return true;
     };
     let mut dirty = first;
     while let Some(dim) = dirty.first() {
         let next = state.mark();
         let levels = &mut kept[dim as usize];
-        if cover_chains::<K>(instance, state, dim, levels) {
+        if propagate_chains::<K>(instance, state, dim, levels) {
             return true;
         }
         let rest = dirty.without(dim);
-        let Some(more) = settle(instance, state, all, next, rest, guess) else {
+        let Some(more) = drain_worklist(instance, state, all, next, rest, guess) else {
             return true;
         };
         // For the proof alone: tells the limits of the state.

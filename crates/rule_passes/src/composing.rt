@@ -11,7 +11,7 @@ ghost use Rattle.edge_state.specs.BitRows.{HoldsBoxes, row_has};
 ghost use Rattle.edge_state.specs.Edges.{is_other_box};
 ghost use Rattle.closure_terms.specs.Instances.{Composes};
 ghost use Rattle.closure_terms.specs.States.{IsSized};
-ghost use Rattle.closure_terms.specs.Work.{IsWorked};
+ghost use Rattle.closure_terms.specs.Work.{HasApplied};
 ghost use Rattle.rule_passes.specs.Reached.{NoRule};
 
 use crate::candidates::uncomposed;
@@ -43,7 +43,7 @@ fn exclude_three<const K: usize>(
     requires after { (x : ℕ) → row_has after x ≡ true
         → (is_other_box (box_count instance.now) u x ≡ true)
         × Follows instance.now (excludes state.old.trail) dim u x After }
-    ensures worked { IsWorked instance.now state.old state.new result NoRule }
+    ensures worked { HasApplied instance.now state.old state.new result NoRule }
     ensures overlap { result ≡ false → (x : ℕ) → row_has overlap.entry x ≡ true
         → IsTrue (excludes state.new.trail dim u x Overlap) }
     ensures before { result ≡ false → (x : ℕ) → row_has before.entry x ≡ true
@@ -77,7 +77,7 @@ pub(crate) fn spread_composed<const K: usize>(
     requires v { v < box_count instance.now }
     requires distinct { u ≡ v → ⊥ }
     requires left { (r : PlainRel) → mask_has left r ≡ not (excludes state.old.trail dim u v r) }
-    ensures { IsWorked instance.now state.old state.new result
+    ensures { HasApplied instance.now state.old state.new result
         (λ rule. HasNoEmptyMask instance.now (excludes state.old.trail)
         × (Composes instance.now dim u v rule ⊎ Composes instance.now dim v u rule)) }
 {

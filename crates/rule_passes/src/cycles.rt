@@ -8,7 +8,7 @@ ghost use Rattle.packing_terms.specs.Rules.{Cycle};
 ghost use Rattle.edge_state.specs.BitRows.{HoldsBoxes, row_has};
 ghost use Rattle.closure_terms.specs.Instances.{Chords, Cycles};
 ghost use Rattle.closure_terms.specs.States.{IsSized};
-ghost use Rattle.closure_terms.specs.Work.{IsWorked};
+ghost use Rattle.closure_terms.specs.Work.{HasApplied};
 
 use crate::candidates::{cycle_fourths, cycle_seconds, cycle_thirds};
 use crate::excluding::{exclude_between, exclude_both};
@@ -32,7 +32,7 @@ pub(crate) fn may_cycle<const K: usize>(
     requires a { a < box_count instance.now }
     requires b { b < box_count instance.now }
     requires all { (x : ℕ) → row_has all x ≡ nat_lt x (box_count instance.now) }
-    ensures { result ≡ false → IsWorked instance.now state.now state.now false
+    ensures { result ≡ false → HasApplied instance.now state.now state.now false
         (Cycles instance.now dim a b) }
 {
     let fourths = cycle_fourths::<K>(instance, state, dim, a, b);
@@ -61,7 +61,7 @@ pub(crate) fn cycles<const K: usize>(
     requires b { b < box_count instance.now }
     requires distinct { a ≡ b → ⊥ }
     requires all { (x : ℕ) → row_has all x ≡ nat_lt x (box_count instance.now) }
-    ensures { IsWorked instance.now state.old state.new result
+    ensures { HasApplied instance.now state.old state.new result
         (λ rule. (c : ℕ) × (c < box_count instance.now)
         × ((d : ℕ) × (d < box_count instance.now) × (rule ≡ Cycle dim a b c d))) }
 {
@@ -121,7 +121,7 @@ pub(crate) fn may_chord<const K: usize>(
     requires c { c < box_count instance.now }
     requires distinct { a ≡ c → ⊥ }
     requires all { (x : ℕ) → row_has all x ≡ nat_lt x (box_count instance.now) }
-    ensures { result ≡ false → IsWorked instance.now state.now state.now false
+    ensures { result ≡ false → HasApplied instance.now state.now state.now false
         (λ rule. Chords instance.now dim a c rule ⊎ Chords instance.now dim c a rule) }
 {
     let seconds = cycle_seconds(instance, state, all, dim, a, c);
@@ -145,7 +145,7 @@ pub(crate) fn chords<const K: usize>(
     requires c { c < box_count instance.now }
     requires distinct { a ≡ c → ⊥ }
     requires all { (x : ℕ) → row_has all x ≡ nat_lt x (box_count instance.now) }
-    ensures { IsWorked instance.now state.old state.new result
+    ensures { HasApplied instance.now state.old state.new result
         (λ rule. Chords instance.now dim a c rule ⊎ Chords instance.now dim c a rule) }
 {
     if !may_chord(instance, state, all, dim, a, c) {

@@ -14,8 +14,8 @@ ghost use Rattle.relation_table.specs.Masks.{mask_has};
 ghost use Rattle.edge_state.specs.BitRows.{HoldsBoxes, row_has};
 ghost use Rattle.closure_terms.specs.Instances.{Aparts, Chords, Cycles, OrdersCrossed, Triples};
 ghost use Rattle.closure_terms.specs.States.{IsSized};
-ghost use Rattle.closure_terms.specs.Work.{IsWorked};
-ghost use Rattle.rule_passes.specs.Reached.{HasNoLonger, IsReachedOrdered, IsReachedRest};
+ghost use Rattle.closure_terms.specs.Work.{HasApplied};
+ghost use Rattle.rule_passes.specs.Reached.{BoundsSides, IsReachedOrdered, IsReachedRest};
 
 use crate::cycles::{chords, cycles};
 use crate::orders::{orders_crossed, orders_first, orders_second};
@@ -42,8 +42,8 @@ pub(crate) fn spread_apart<const K: usize>(
     requires u { u < box_count instance.now }
     requires v { v < box_count instance.now }
     requires distinct { u ≡ v → ⊥ }
-    requires most { HasNoLonger instance.now dim most }
-    ensures { IsWorked instance.now state.old state.new result (λ rule.
+    requires most { BoundsSides instance.now dim most }
+    ensures { HasApplied instance.now state.old state.new result (λ rule.
         ((mask_has left Overlap ≡ false) × (mask_has stale Overlap ≡ false))
         × (Triples instance.now dim u v rule
         ⊎ Triples instance.now dim v u rule)) }
@@ -73,7 +73,7 @@ pub(crate) fn spread_chords<const K: usize>(
     requires v { v < box_count instance.now }
     requires distinct { u ≡ v → ⊥ }
     requires all { (x : ℕ) → row_has all x ≡ nat_lt x (box_count instance.now) }
-    ensures { IsWorked instance.now state.old state.new result (λ rule.
+    ensures { HasApplied instance.now state.old state.new result (λ rule.
         ((mask_has left Overlap ≡ false) × (mask_has stale Overlap ≡ false))
         × (Chords instance.now dim u v rule
         ⊎ Chords instance.now dim v u rule)) }
@@ -86,7 +86,7 @@ pub(crate) fn spread_chords<const K: usize>(
 
 /// APART of two boxes that are joined: none where the mask has before or after.
 #[inline(always)]
-pub(crate) fn spread_near<const K: usize>(
+pub(crate) fn apply_apart_if_joined<const K: usize>(
     instance: &Instance,
     state: &mut EdgeState,
     dim: u32,
@@ -99,7 +99,7 @@ pub(crate) fn spread_near<const K: usize>(
     requires p { p < box_count instance.now }
     requires q { q < box_count instance.now }
     requires distinct { p ≡ q → ⊥ }
-    ensures { IsWorked instance.now state.old state.new result
+    ensures { HasApplied instance.now state.old state.new result
         (λ rule. ((mask_has left Before ≡ false) × (mask_has left After ≡ false))
         × Aparts instance.now dim p q rule) }
 {
@@ -126,7 +126,7 @@ fn spread_joined<const K: usize>(
     requires q { q < box_count instance.now }
     requires distinct { p ≡ q → ⊥ }
     requires all { (x : ℕ) → row_has all x ≡ nat_lt x (box_count instance.now) }
-    ensures { IsWorked instance.now state.old state.new result
+    ensures { HasApplied instance.now state.old state.new result
         (λ rule. ((mask_has left Before ≡ false) × (mask_has left After ≡ false))
         × Cycles instance.now dim p q rule) }
 {
@@ -154,7 +154,7 @@ fn spread_ordered<const K: usize>(
     requires q { q < box_count instance.now }
     requires distinct { p ≡ q → ⊥ }
     requires all { (x : ℕ) → row_has all x ≡ nat_lt x (box_count instance.now) }
-    ensures { IsWorked instance.now state.old state.new result
+    ensures { HasApplied instance.now state.old state.new result
         (λ rule. ((mask_has left Overlap ≡ false) × (mask_has left After ≡ false))
         × IsReachedOrdered instance.now dim p q rule) }
 {
@@ -186,7 +186,7 @@ fn spread_crossed<const K: usize>(
     requires q { q < box_count instance.now }
     requires distinct { p ≡ q → ⊥ }
     requires all { (x : ℕ) → row_has all x ≡ nat_lt x (box_count instance.now) }
-    ensures { IsWorked instance.now state.old state.new result
+    ensures { HasApplied instance.now state.old state.new result
         (λ rule. ((mask_has left Before ≡ false) × (is_stale ≡ false))
         × OrdersCrossed instance.now dim p q rule) }
 {
@@ -215,7 +215,7 @@ pub(crate) fn spread_from<const K: usize>(
     requires q { q < box_count instance.now }
     requires distinct { p ≡ q → ⊥ }
     requires all { (x : ℕ) → row_has all x ≡ nat_lt x (box_count instance.now) }
-    ensures { IsWorked instance.now state.old state.new result
+    ensures { HasApplied instance.now state.old state.new result
         (IsReachedRest instance.now dim p q (mask_has left) is_stale) }
 {
     if spread_joined(instance, state, all, dim, p, q, left) {

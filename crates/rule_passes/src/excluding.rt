@@ -8,7 +8,7 @@ ghost use Rattle.packing_terms.specs.Rules.{Follows};
 ghost use Rattle.edge_state.specs.BitRows.{HoldsBoxes, row_has};
 ghost use Rattle.edge_state.specs.Edges.{is_other_box};
 ghost use Rattle.closure_terms.specs.States.{IsSized};
-ghost use Rattle.closure_terms.specs.Work.{IsWorked};
+ghost use Rattle.closure_terms.specs.Work.{HasApplied};
 ghost use Rattle.rule_passes.specs.Reached.{NoRule};
 
 use crate::rows::{either, is_empty};
@@ -33,8 +33,8 @@ pub(crate) fn exclude_each<const K: usize>(
         → is_other_box (box_count instance.now) u v ≡ true }
     requires follows { (v : ℕ) → row_has row v ≡ true
         → Follows instance.now (excludes state.old.trail) dim u v rel }
-    ensures worked { IsWorked instance.now state.old state.new result NoRule }
-    ensures shut { (v : ℕ) → row_has row.entry v ≡ true
+    ensures worked { HasApplied instance.now state.old state.new result NoRule }
+    ensures exclude_if_too_long { (v : ℕ) → row_has row.entry v ≡ true
         → IsTrue (excludes state.new.trail dim u v rel) }
 {
     let open = state.row_in::<K>(dim, u, rel);
@@ -64,8 +64,8 @@ pub(crate) fn exclude_both<const K: usize>(
     requires follows { (v : ℕ) → row_has row v ≡ true
         → Follows instance.now (excludes state.old.trail) dim u v first
         × Follows instance.now (excludes state.old.trail) dim u v second }
-    ensures worked { IsWorked instance.now state.old state.new result NoRule }
-    ensures shut { result ≡ false → (v : ℕ) → row_has row.entry v ≡ true
+    ensures worked { HasApplied instance.now state.old state.new result NoRule }
+    ensures exclude_if_too_long { result ≡ false → (v : ℕ) → row_has row.entry v ≡ true
         → IsTrue (excludes state.new.trail dim u v first)
         × IsTrue (excludes state.new.trail dim u v second) }
 {
@@ -92,8 +92,8 @@ pub(crate) fn exclude_between<const K: usize>(
     requires follows { (u v : ℕ) → row_has from u ≡ true → row_has to v ≡ true → (u ≡ v → ⊥)
         → Follows instance.now (excludes state.old.trail) dim u v first
         × Follows instance.now (excludes state.old.trail) dim u v second }
-    ensures worked { IsWorked instance.now state.old state.new result NoRule }
-    ensures shut { result ≡ false → (u v : ℕ) → row_has from.entry u ≡ true
+    ensures worked { HasApplied instance.now state.old state.new result NoRule }
+    ensures exclude_if_too_long { result ≡ false → (u v : ℕ) → row_has from.entry u ≡ true
         → row_has to.entry v ≡ true → v < box_count instance.now → (u ≡ v → ⊥)
         → IsTrue (excludes state.new.trail dim u v first)
         × IsTrue (excludes state.new.trail dim u v second) }

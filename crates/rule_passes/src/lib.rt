@@ -4,20 +4,20 @@
 
 mod candidates;
 mod chains;
-mod chances;
 mod closing;
 mod composing;
 mod cycles;
+mod dispatch;
 mod edges;
 mod empties;
 mod excluding;
-mod following;
 mod orders;
 mod overlaps;
 mod pairs;
+mod prechecks;
 mod room;
 mod rows;
-mod settle;
 mod triples;
+mod worklist;
 
-pub use room::ClosingRoom;
+pub use room::Propagator;

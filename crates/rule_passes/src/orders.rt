@@ -6,7 +6,7 @@ ghost use Rattle.packing_terms.specs.Rules.{Order};
 ghost use Rattle.edge_state.specs.BitRows.{HoldsBoxes, row_has};
 ghost use Rattle.closure_terms.specs.Instances.{OrdersFirst, OrdersSecond, OrdersCrossed};
 ghost use Rattle.closure_terms.specs.States.{IsSized};
-ghost use Rattle.closure_terms.specs.Work.{IsCovered, IsWorked};
+ghost use Rattle.closure_terms.specs.Work.{IsCovered, HasApplied};
 
 use crate::candidates::{beyond_orders_from, beyond_orders_to};
 use crate::excluding::{exclude_between, exclude_both};
@@ -124,7 +124,7 @@ pub(crate) fn may_order_first<const K: usize>(
     requires b { b < box_count instance.now }
     requires distinct { a ≡ b → ⊥ }
     requires all { (x : ℕ) → row_has all x ≡ nat_lt x (box_count instance.now) }
-    ensures { result ≡ false → IsWorked instance.now state.now state.now false
+    ensures { result ≡ false → HasApplied instance.now state.now state.now false
         (OrdersFirst instance.now dim a b) }
 {
     let lasts = gone(instance, state, all, dim, a, Rel::Before, Rel::Before);
@@ -147,7 +147,7 @@ pub(crate) fn orders_first<const K: usize>(
     requires b { b < box_count instance.now }
     requires distinct { a ≡ b → ⊥ }
     requires all { (x : ℕ) → row_has all x ≡ nat_lt x (box_count instance.now) }
-    ensures { IsWorked instance.now state.old state.new result
+    ensures { HasApplied instance.now state.old state.new result
         (λ rule. (d : ℕ) × (d < box_count instance.now)
         × ((c : ℕ) × (c < box_count instance.now) × (rule ≡ Order dim a b c d))) }
 {
@@ -188,7 +188,7 @@ pub(crate) fn may_order_second<const K: usize>(
     requires d { d < box_count instance.now }
     requires distinct { c ≡ d → ⊥ }
     requires all { (x : ℕ) → row_has all x ≡ nat_lt x (box_count instance.now) }
-    ensures { result ≡ false → IsWorked instance.now state.now state.now false
+    ensures { result ≡ false → HasApplied instance.now state.now state.now false
         (OrdersSecond instance.now dim c d) }
 {
     let firsts = gone(instance, state, all, dim, d, Rel::After, Rel::After);
@@ -211,7 +211,7 @@ pub(crate) fn orders_second<const K: usize>(
     requires d { d < box_count instance.now }
     requires distinct { c ≡ d → ⊥ }
     requires all { (x : ℕ) → row_has all x ≡ nat_lt x (box_count instance.now) }
-    ensures { IsWorked instance.now state.old state.new result
+    ensures { HasApplied instance.now state.old state.new result
         (λ rule. (a : ℕ) × (a < box_count instance.now)
         × ((b : ℕ) × (b < box_count instance.now) × (rule ≡ Order dim a b c d))) }
 {
@@ -252,7 +252,7 @@ pub(crate) fn may_order_crossed<const K: usize>(
     requires d { d < box_count instance.now }
     requires distinct { a ≡ d → ⊥ }
     requires all { (x : ℕ) → row_has all x ≡ nat_lt x (box_count instance.now) }
-    ensures { result ≡ false → IsWorked instance.now state.now state.now false
+    ensures { result ≡ false → HasApplied instance.now state.now state.now false
         (OrdersCrossed instance.now dim a d) }
 {
     let seconds = gone(instance, state, all, dim, a, Rel::Overlap, Rel::After);
@@ -275,7 +275,7 @@ pub(crate) fn orders_crossed<const K: usize>(
     requires d { d < box_count instance.now }
     requires distinct { a ≡ d → ⊥ }
     requires all { (x : ℕ) → row_has all x ≡ nat_lt x (box_count instance.now) }
-    ensures { IsWorked instance.now state.old state.new result
+    ensures { HasApplied instance.now state.old state.new result
         (λ rule. (b : ℕ) × (b < box_count instance.now)
         × ((c : ℕ) × (c < box_count instance.now) × (rule ≡ Order dim a b c d))) }
 {

@@ -6,7 +6,7 @@ ghost use Rattle.packing_terms.specs.Exclusions.{excludes, IsJoined};
 ghost use Rattle.packing_terms.specs.Rules.{Apart};
 ghost use Rattle.edge_state.specs.BitRows.{HoldsBoxes};
 ghost use Rattle.closure_terms.specs.States.{IsSized};
-ghost use Rattle.closure_terms.specs.Work.{IsWorked};
+ghost use Rattle.closure_terms.specs.Work.{HasApplied};
 
 use crate::empties::is_empty_at;
 use crate::rows::either;
@@ -69,7 +69,7 @@ fn joined_beside<const K: usize>(
 
 // Excludes overlap of two boxes that are joined in each other dimension: APART.
 #[inline(never)]
-fn shut_overlap<const K: usize>(
+fn exclude_overlap<const K: usize>(
     instance: &Instance,
     state: &mut EdgeState,
     i: u32,
@@ -83,7 +83,7 @@ fn shut_overlap<const K: usize>(
     requires distinct { u ≡ v → ⊥ }
     requires joined { (j : ℕ) → j < dims instance.now → j ≢ i
         → IsJoined (excludes state.old.trail) j u v }
-    ensures { IsWorked instance.now state.old state.new result (λ rule. rule ≡ Apart i u v) }
+    ensures { HasApplied instance.now state.old state.new result (λ rule. rule ≡ Apart i u v) }
 {
     // What it answers isn't asked anywhere, so that it isn't computed.
     let _ = state.exclude_in::<K>(i, u, v, Rel::Overlap);
@@ -106,7 +106,7 @@ fn apart_at<const K: usize>(
     requires u { u < box_count instance.now }
     requires v { v < box_count instance.now }
     requires distinct { u ≡ v → ⊥ }
-    ensures { IsWorked instance.now state.old state.new result
+    ensures { HasApplied instance.now state.old state.new result
         (λ rule. (dim ≢ i) × (rule ≡ Apart i u v)) }
 {
     if i == dim {
@@ -119,7 +119,7 @@ fn apart_at<const K: usize>(
     if !joined_beside::<K>(instance, state, i, u, v) {
         return false;
     }
-    shut_overlap::<K>(instance, state, i, u, v)
+    exclude_overlap::<K>(instance, state, i, u, v)
 }
 
 /// APART in each other dimension.
@@ -136,7 +136,7 @@ pub(crate) fn aparts<const K: usize>(
     requires u { u < box_count instance.now }
     requires v { v < box_count instance.now }
     requires distinct { u ≡ v → ⊥ }
-    ensures { IsWorked instance.now state.old state.new result
+    ensures { HasApplied instance.now state.old state.new result
         (λ rule. (i : ℕ) × (i < dims instance.now) × ((dim ≢ i) × (rule ≡ Apart i u v))) }
 {
     for i in 0..instance.dims() {

@@ -3,7 +3,7 @@ ghost use Rattle.std.specs.Prelude.{◌≡◌, ◌<◌, ℕ};
 ghost use Rattle.packing_terms.specs.Packing.{dims, box_count};
 ghost use Rattle.packing_terms.specs.Rules.{Pair};
 ghost use Rattle.closure_terms.specs.States.{IsSized};
-ghost use Rattle.closure_terms.specs.Work.{IsWorked};
+ghost use Rattle.closure_terms.specs.Work.{HasApplied};
 
 use crate::empties::is_empty_at;
 use crate::overlaps::aparts;
@@ -17,7 +17,7 @@ fn pair_at(instance: &Instance, state: &mut EdgeState, dim: u32, u: u32, v: u32)
     requires sizes { IsSized instance.now state.old dim }
     requires u { u < box_count instance.now }
     requires v { v < box_count instance.now }
-    ensures { IsWorked instance.now state.old state.new result (λ rule. rule ≡ Pair dim u v) }
+    ensures { HasApplied instance.now state.old state.new result (λ rule. rule ≡ Pair dim u v) }
 {
     // For the proof alone: tells the limits of the state.
     let _boxes = state.boxes();
@@ -38,7 +38,7 @@ fn pair_at(instance: &Instance, state: &mut EdgeState, dim: u32, u: u32, v: u32)
 fn pairs_from(instance: &Instance, state: &mut EdgeState, dim: u32, u: u32) -> bool
     requires sizes { IsSized instance.now state.old dim }
     requires u { u < box_count instance.now }
-    ensures { IsWorked instance.now state.old state.new result
+    ensures { HasApplied instance.now state.old state.new result
         (λ rule. (v : ℕ) × (v < box_count instance.now) × ((u < v) × (rule ≡ Pair dim u v))) }
 {
     let boxes = instance.len();
@@ -53,7 +53,7 @@ fn pairs_from(instance: &Instance, state: &mut EdgeState, dim: u32, u: u32) -> b
 // The same with each first box.
 fn pairs_in(instance: &Instance, state: &mut EdgeState, dim: u32) -> bool
     requires { IsSized instance.now state.old dim }
-    ensures { IsWorked instance.now state.old state.new result
+    ensures { HasApplied instance.now state.old state.new result
         (λ rule. (u : ℕ) × (u < box_count instance.now)
         × ((v : ℕ) × (v < box_count instance.now) × ((u < v) × (rule ≡ Pair dim u v)))) }
 {
@@ -69,7 +69,7 @@ fn pairs_in(instance: &Instance, state: &mut EdgeState, dim: u32) -> bool
 pub(crate) fn pass_pairs(instance: &Instance, state: &mut EdgeState) -> bool
     requires dims { state.old.dims ≡ dims instance.now }
     requires boxes { state.old.boxes ≡ box_count instance.now }
-    ensures { IsWorked instance.now state.old state.new result
+    ensures { HasApplied instance.now state.old state.new result
         (λ rule. (i : ℕ) × (i < dims instance.now) × ((u : ℕ) × (u < box_count instance.now)
         × ((v : ℕ) × (v < box_count instance.now) × ((u < v) × (rule ≡ Pair i u v))))) }
 {

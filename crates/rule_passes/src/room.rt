@@ -9,17 +9,17 @@ ghost use Rattle.rule_terms.specs.Places.{HasNoEmptyMask};
 ghost use Rattle.edge_state.specs.BitRows.{IsRowWidth, row_has};
 ghost use Rattle.edge_state.specs.Edges.{oldest};
 ghost use Rattle.closure_terms.specs.States.{HasEmptyMask};
-ghost use Rattle.closure_terms.specs.Work.{IsUpToDate, IsChained};
-ghost use Rattle.orientation_rules.specs.KeptWeights.{PlainLevels};
+ghost use Rattle.closure_terms.specs.Work.{IsUpToDate, IsChainUpToDate};
+ghost use Rattle.orientation_rules.specs.CachedChainWeights.{PlainLevels};
 ghost use Rattle.rule_passes.specs.Rooms.{AreKept, AreMade};
 
-use crate::closing::close_with;
+use crate::closing::run_to_fixpoint;
 use crate::pairs::pass_pairs;
 use crate::rows::all_boxes;
 use box_instances::{Instance, NoMemory};
-use early_chains::Guess;
+use early_chains::ChainEstimates;
 use edge_state::{BitRow, EdgeState, Mark};
-use orientation_rules::KeptLevels;
+use orientation_rules::ChainWeightCache;
 use std::alloc::Global;
 use std::marker::Model;
 
@@ -29,21 +29,21 @@ use std::marker::Model;
 /// Rows have one word where that holds as many boxes as it was made for, and else two. The weights
 /// of chains are kept from one closing to the next.
 #[derive(Drop)]
-pub struct ClosingRoom {
+pub struct Propagator {
     dims: u32,
     boxes: u32,
     most: u32,
     narrow: BitRow<1>,
     wide: BitRow<2>,
-    narrow_kept: Vec<KeptLevels<1>>,
-    wide_kept: Vec<KeptLevels<2>>,
-    guess: Guess,
+    narrow_kept: Vec<ChainWeightCache<1>>,
+    wide_kept: Vec<ChainWeightCache<2>>,
+    guess: ChainEstimates,
 }
 
-impl Model for ClosingRoom {
-    ghost use Rattle.rule_passes.specs.Rooms.{PlainRoom, HasRoom};
+impl Model for Propagator {
+    ghost use Rattle.rule_passes.specs.Rooms.{PlainPropagator, HasRoom};
 
-    ghost Value = { PlainRoom };
+    ghost Value = { PlainPropagator };
 
     ghost view = { λ c. record { dims = c.dims; boxes = c.boxes; most = c.most } };
 
@@ -67,14 +67,14 @@ fn levels_of<const K: usize>(
     alloc: Global,
     dims: u32,
     boxes: u32,
-) -> Result<Vec<KeptLevels<K>>, NoMemory>
+) -> Result<Vec<ChainWeightCache<K>>, NoMemory>
     requires { IsRowWidth K }
     ensures { IfOk result (λ kept. AreKept dims boxes kept.items
         × AreMade dims boxes kept.items) }
 {
     let mut kept = Vec::new(alloc);
     for _ in 0..dims {
-        let levels = KeptLevels::new(alloc, boxes, LEVELS)?;
+        let levels = ChainWeightCache::new(alloc, boxes, LEVELS)?;
         let Ok(()) = kept.push(levels) else {
             return Err(NoMemory);
         };
@@ -83,7 +83,7 @@ fn levels_of<const K: usize>(
 }
 
 // Uses the room in each dimension for `boxes` boxes.
-fn set_each<const K: usize>(kept: &mut [KeptLevels<K>], boxes: u32)
+fn set_each<const K: usize>(kept: &mut [ChainWeightCache<K>], boxes: u32)
     requires width { IsRowWidth K }
     requires few { (k : ℕ) (other : PlainLevels) → k < length kept.old
         → boxes ≤ (slice_index_or kept.old k other).most }
@@ -95,9 +95,9 @@ fn set_each<const K: usize>(kept: &mut [KeptLevels<K>], boxes: u32)
     }
 }
 
-impl ClosingRoom {
+impl Propagator {
     // The working room in which a chain that is too long is looked for early, or not.
-    fn made(alloc: Global, dims: u32, boxes: u32, is_early: bool) -> Result<ClosingRoom, NoMemory>
+    fn made(alloc: Global, dims: u32, boxes: u32, is_early: bool) -> Result<Propagator, NoMemory>
         requires dimensions { IsDimCount dims }
         requires boxes { IsBoxCount boxes }
         ensures { IfOk result
@@ -105,8 +105,8 @@ impl ClosingRoom {
     {
         let narrow_kept = levels_of::<1>(alloc, count_if(dims, boxes <= 64), boxes)?;
         let wide_kept = levels_of::<2>(alloc, count_if(dims, boxes > 64), boxes)?;
-        let guess = Guess::new(alloc, boxes, is_early)?;
-        Ok(ClosingRoom {
+        let guess = ChainEstimates::new(alloc, boxes, is_early)?;
+        Ok(Propagator {
             dims,
             boxes,
             most: boxes,
@@ -120,23 +120,23 @@ impl ClosingRoom {
 
     /// The working room for states of `dims` dimensions and `boxes` boxes. `dims` is from 2 to 4,
     /// `boxes` from 1 to 128. A closing ends as soon as it finds a chain that is too long.
-    pub fn new(alloc: Global, dims: u32, boxes: u32) -> Result<ClosingRoom, NoMemory>
+    pub fn new(alloc: Global, dims: u32, boxes: u32) -> Result<Propagator, NoMemory>
         requires dimensions { IsDimCount dims }
         requires boxes { IsBoxCount boxes }
         ensures { IfOk result
             (λ room. room ≡ record { dims = dims; boxes = boxes; most = boxes }) }
     {
-        ClosingRoom::made(alloc, dims, boxes, true)
+        Propagator::made(alloc, dims, boxes, true)
     }
 
     /// The same, but a closing goes along what changed, in its order, to the mask that is empty.
-    pub fn in_order(alloc: Global, dims: u32, boxes: u32) -> Result<ClosingRoom, NoMemory>
+    pub fn in_order(alloc: Global, dims: u32, boxes: u32) -> Result<Propagator, NoMemory>
         requires dimensions { IsDimCount dims }
         requires boxes { IsBoxCount boxes }
         ensures { IfOk result
             (λ room. room ≡ record { dims = dims; boxes = boxes; most = boxes }) }
     {
-        ClosingRoom::made(alloc, dims, boxes, false)
+        Propagator::made(alloc, dims, boxes, false)
     }
 
     /// Uses it for states of `boxes` boxes, at most as many as it was made for. It takes no memory.
@@ -164,7 +164,7 @@ impl ClosingRoom {
         requires mark { closed ≤ length state.old.trail }
         requires settled { IsUpToDate instance.now
             (oldest closed state.old.trail) state.old.trail }
-        requires chained { (i : ℕ) → i < dims instance.now → IsChained instance.now i
+        requires chained { (i : ℕ) → i < dims instance.now → IsChainUpToDate instance.now i
             (oldest closed state.old.trail) state.old.trail }
         ensures room { self.new ≡ self.old }
         ensures sizes { state.new ≡ record state.old { trail = state.new.trail } }
@@ -177,10 +177,10 @@ impl ClosingRoom {
         let _sizes = state.dims();
         if self.most <= 64 {
             let kept = self.narrow_kept.as_mut_slice();
-            return close_with(instance, state, self.narrow, kept, &mut self.guess, closed);
+            return run_to_fixpoint(instance, state, self.narrow, kept, &mut self.guess, closed);
         }
         let kept = self.wide_kept.as_mut_slice();
-        close_with(instance, state, self.wide, kept, &mut self.guess, closed)
+        run_to_fixpoint(instance, state, self.wide, kept, &mut self.guess, closed)
     }
 
     /// Excludes what follows from the exclusions of the state, by the seven rules, until no rule

@@ -9,8 +9,8 @@ ghost use Rattle.edge_state.specs.BitRows.{HoldsBoxes, row_has};
 ghost use Rattle.edge_state.specs.Edges.{is_other_box};
 ghost use Rattle.closure_terms.specs.Instances.{Triples};
 ghost use Rattle.closure_terms.specs.States.{IsSized};
-ghost use Rattle.closure_terms.specs.Work.{IsWorked};
-ghost use Rattle.rule_passes.specs.Reached.{HasNoLonger};
+ghost use Rattle.closure_terms.specs.Work.{HasApplied};
+ghost use Rattle.rule_passes.specs.Reached.{BoundsSides};
 
 use crate::candidates::beyond_triples;
 use crate::excluding::exclude_both;
@@ -107,7 +107,7 @@ fn triples_among<const K: usize>(
         → side instance.now u dim + w + side instance.now x dim ≤ container_side instance.now dim }
     requires over { (w : ℕ) → least ≤ w
         → container_side instance.now dim < side instance.now u dim + w + side instance.now x dim }
-    ensures { IsWorked instance.now state.old state.new result
+    ensures { HasApplied instance.now state.old state.new result
         (λ rule. (v : ℕ) × (v < box_count instance.now)
         × ((row_has thirds.entry v ≡ true) × (rule ≡ Triple dim u v x))) }
 {
@@ -134,8 +134,8 @@ pub(crate) fn may_triple<const K: usize>(
     requires u { u < box_count instance.now }
     requires x { x < box_count instance.now }
     requires distinct { u ≡ x → ⊥ }
-    requires most { HasNoLonger instance.now dim most }
-    ensures { result ≡ false → IsWorked instance.now state.now state.now false (λ rule.
+    requires most { BoundsSides instance.now dim most }
+    ensures { result ≡ false → HasApplied instance.now state.now state.now false (λ rule.
         Triples instance.now dim u x rule ⊎ Triples instance.now dim x u rule) }
 {
     let there = beyond_triples::<K>(instance, state, dim, u, x);
@@ -166,8 +166,8 @@ pub(crate) fn triples<const K: usize>(
     requires u { u < box_count instance.now }
     requires x { x < box_count instance.now }
     requires distinct { u ≡ x → ⊥ }
-    requires most { HasNoLonger instance.now dim most }
-    ensures { IsWorked instance.now state.old state.new result (λ rule.
+    requires most { BoundsSides instance.now dim most }
+    ensures { HasApplied instance.now state.old state.new result (λ rule.
         Triples instance.now dim u x rule ⊎ Triples instance.now dim x u rule) }
 {
     if !may_triple::<K>(instance, state, dim, u, x, most) {

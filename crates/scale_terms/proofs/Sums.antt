@@ -33,10 +33,10 @@ sum-turn (suc n) m f =
     ap (λ s. s + sum_below m (λ t. f n t)) (sum-turn n m f)
     ∙ sym (sum-add m (λ t. sum_below n (λ v. f v t)) (λ t. f n t))
 
-spread_left : (a b c : ℕ) → c * a + c * b ≡ c * (a + b)
-spread_left a b c = grind arith
+propagate_mask : (a b c : ℕ) → c * a + c * b ≡ c * (a + b)
+propagate_mask a b c = grind arith
 
 pub sum-times_left : (n c : ℕ) (f : ℕ → ℕ) → sum_below n (λ v. c * f v) ≡ c * sum_below n f
 sum-times_left zero c f = omega arith
 sum-times_left (suc n) c f =
-    ap (λ s. s + c * f n) (sum-times_left n c f) ∙ spread_left (sum_below n f) (f n) c
+    ap (λ s. s + c * f n) (sum-times_left n c f) ∙ propagate_mask (sum_below n f) (f n) c

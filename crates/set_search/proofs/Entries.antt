@@ -5,7 +5,7 @@ use Rattle.std.specs.Cmp.Lexicographic.{pointwise, same_text}
 use Rattle.std.proofs.lemmas.Bool.{true≢false}
 use Rattle.std.specs.List.{Contains}
 use Rattle.std.proofs.lemmas.List.{get_or-map, length-map}
-use Rattle.set_search.specs.declared.memory.Entry.{Entry}
+use Rattle.set_search.specs.declared.cache.Entry.{Entry}
 use Rattle.set_search.specs.Entries.{plain_entry}
 
 -- what is read of a list of entries is among them

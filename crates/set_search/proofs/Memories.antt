@@ -11,7 +11,7 @@ use Rattle.packing_terms.specs.Packing.{PlainInstance}
 use Rattle.packing_terms.specs.Goals.{subset, IsBoxSet}
 use Rattle.packing_terms.specs.Limits.{IsInternalInstance}
 use Rattle.packing_terms.specs.Tokens.{PlainToken}
-use Rattle.tree_terms.specs.Trees.{Verdict, No, PlainOutcome, Decided, Past, told, count_of}
+use Rattle.tree_terms.specs.Trees.{Verdict, No, PlainOutcome, Decided, Past, under_budget, count_of}
 use Rattle.tree_terms.specs.OuterTrees.{set_verdict}
 use Rattle.tree_terms.proofs.Decisions.{class_tree_right}
 use Rattle.box_instances.proofs.Subsets.{subset_within}
@@ -87,11 +87,11 @@ one_set (x ∷ xs) (y ∷ ys) r s h =
 pub verdict_made : (instance : PlainInstance) (scales : Bool) (boxes keep : List ℕ) (budget : ℕ)
     (outcome : PlainOutcome)
     → HasBoxes boxes keep → IsBoxSet instance keep
-    → outcome ≡ told budget (set_verdict instance scales keep)
+    → outcome ≡ under_budget budget (set_verdict instance scales keep)
     → IsVerdict instance scales (record { boxes = boxes; budget = budget; outcome = outcome })
 verdict_made instance scales boxes keep budget outcome has set e = record {
   is = λ other other_set other_has.
-      e ∙ ap (λ us. told budget (set_verdict instance scales us))
+      e ∙ ap (λ us. under_budget budget (set_verdict instance scales us))
       (one_set keep other set.rising other_set.rising (λ x. sym (has x) ∙ other_has x));
 }
 
@@ -126,17 +126,17 @@ none_past budget = go (ltb budget 0)
 
 -- an outcome that was found under one budget is told under another one that it serves
 pub retold_told : (found budget : ℕ) (v : Verdict) (r : PlainOutcome)
-    → r ≡ told found v → Serves r found budget
-    → retold budget r ≡ told budget v
+    → r ≡ under_budget found v → Serves r found budget
+    → retold budget r ≡ under_budget budget v
 retold_told found budget v (Decided w) e serves =
-    let t = told_same found v w e in ap (told budget) (sym t.same)
+    let t = told_same found v w e in ap (under_budget budget) (sym t.same)
 retold_told found budget v Past e serves = go (ltb found (count_of v)) refl e
   where
     is_past : PlainOutcome → Type 0
     is_past (Decided x) = ⊥
     is_past Past = Past ≡ Past
 
-    go : (b : Bool) → ltb found (count_of v) ≡ b → Past ≡ cond b Past (Decided v) → retold budget Past ≡ told budget v
+    go : (b : Bool) → ltb found (count_of v) ≡ b → Past ≡ cond b Past (Decided v) → retold budget Past ≡ under_budget budget v
     go true f h =
         let l = ltb-true found (count_of v) f in
         none_past budget ∙ sym (ap (λ b. cond b Past (Decided v)) (lt-ltb budget (count_of v) (omega (arith, l, serves))))
@@ -144,7 +144,7 @@ retold_told found budget v Past e serves = go (ltb found (count_of v)) refl e
 
 -- an outcome that was found under a greater budget or the same, told under this one
 pub told_within : (found budget : ℕ) (v : Verdict) (r s : PlainOutcome)
-    → budget ≤ found → r ≡ told found v → s ≡ retold budget r → s ≡ told budget v
+    → budget ≤ found → r ≡ under_budget found v → s ≡ retold budget r → s ≡ under_budget budget v
 told_within found budget v r s l e h = h ∙ retold_told found budget v r e (go r)
   where
     go : (x : PlainOutcome) → Serves x found budget
@@ -156,7 +156,7 @@ pub recalled : (instance : PlainInstance) (scales : Bool) (entries : List PlainE
     (r : PlainOutcome)
     → AreVerdicts instance scales entries → HasBoxes boxes keep → IsBoxSet instance keep
     → IsRecalled entries boxes budget r
-    → r ≡ told budget (set_verdict instance scales keep)
+    → r ≡ under_budget budget (set_verdict instance scales keep)
 recalled instance scales entries boxes keep budget r right has set found =
     let v = All-contains (IsVerdict instance scales) entries found.entry right found.kept.there in
     let own = v.is keep set (subst (λ (b : List ℕ). HasBoxes b keep) (sym found.kept.same) has) in
@@ -185,7 +185,7 @@ recalled_no instance scales entries boxes keep budget bin old new (Some cost) ri
 -- a verdict that is told is right
 pub told_right : (instance : PlainInstance) (scales : Bool) (keep : List ℕ) (budget : ℕ) (r : PlainOutcome)
     → IsInternalInstance instance → IsBoxSet instance keep
-    → 1 ≤ length keep → r ≡ told budget (set_verdict instance scales keep) → IsRight (subset instance keep) [] r
+    → 1 ≤ length keep → r ≡ under_budget budget (set_verdict instance scales keep) → IsRight (subset instance keep) [] r
 told_right instance scales keep budget r limits set some e =
     subst (λ (x : PlainOutcome). IsRight (subset instance keep) [] x) (sym e)
     (go (ltb budget (count_of (set_verdict instance scales keep))))

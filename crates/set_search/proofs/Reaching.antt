@@ -4,7 +4,7 @@ use Rattle.std.proofs.Common.{List, [], ◌∷◌, ◌++◌, length, take, drop,
 use Rattle.std.proofs.lemmas.Bool.{true≢false, ltb-true}
 use Rattle.packing_terms.specs.Tokens.{PlainToken}
 use Rattle.tree_terms.specs.Trees.{SearchTree, Refuted, Split, node_at}
-use Rattle.tree_terms.specs.Paths.{most_budget, own_of, IsReachable}
+use Rattle.tree_terms.specs.Paths.{max_budget, own_of, IsReachable}
 use Rattle.tree_terms.proofs.PathNodes.{none_there}
 
 -- what is left of a list begins with the entry at its position
@@ -34,20 +34,20 @@ refuted_leaf tokens own (j ∷ above) k r = past_leaf (above ++ k ∷ []) r.ther
 
 -- the node from which a path leads on counts within the greatest budget
 pub own_within : (tree : SearchTree) (above : List ℕ) (k : ℕ) → IsReachable tree (above ++ k ∷ [])
-    → own_of tree ≤ most_budget
+    → own_of tree ≤ max_budget
 own_within tree [] k r = r.within [] [] k refl tree refl
 own_within tree (j ∷ above) k r = r.within [] (above ++ k ∷ []) j refl tree refl
 
 -- into a child of a split, which its own path reaches
 pub reach_child : (token : PlainToken) (own n : ℕ) (child : ℕ → SearchTree) (j : ℕ) (path : List ℕ)
     → IsReachable (Split token own n child) (j ∷ path)
-    → (own ≤ most_budget) × (j < n)
+    → (own ≤ max_budget) × (j < n)
     × (node_at (Some (Split token own n child)) (j ∷ path) ≡ node_at (Some (child j)) path)
     × IsReachable (child j) path
 reach_child token own n child j path r = go (ltb j n) refl
   where
     go : (b : Bool) → ltb j n ≡ b
-        → (own ≤ most_budget) × (j < n)
+        → (own ≤ max_budget) × (j < n)
         × (node_at (Some (Split token own n child)) (j ∷ path) ≡ node_at (Some (child j)) path)
         × IsReachable (child j) path
     go false e = absurd (true≢false

@@ -3,7 +3,7 @@ use Rattle.std.proofs.Common.{◌≡◌, ℕ, ◌+◌, ◌<◌, ◌≤◌, ◌�
 use Rattle.std.proofs.Common.{if◌then◌else◌, List, [], ◌++◌, append-nil}
 use Rattle.std.proofs.lemmas.Bool.{lt-ltb, true≢false, cases_lt}
 use Rattle.packing_terms.specs.Tokens.{PlainToken}
-use Rattle.tree_terms.specs.Trees.{Verdict, No, join, count_of, PlainOutcome, Decided, Past, told}
+use Rattle.tree_terms.specs.Trees.{Verdict, No, join, count_of, PlainOutcome, Decided, Past, under_budget}
 use Rattle.tree_terms.proofs.Told.{told_decided}
 use Rattle.tree_terms.proofs.Joins.{join_assoc}
 
@@ -26,7 +26,7 @@ pub record IsTold (budget : ℕ) (v w : Verdict) : Type 0 where
   pub same : v ≡ w
   pub within : count_of w ≤ budget
 
-pub told_same : (budget : ℕ) (v w : Verdict) → Decided w ≡ told budget v → IsTold budget v w
+pub told_same : (budget : ℕ) (v w : Verdict) → Decided w ≡ under_budget budget v → IsTold budget v w
 told_same budget v w e = go (ltb budget (count_of v)) refl e
   where
     is_decided : PlainOutcome → Type 0
@@ -47,5 +47,5 @@ told_same budget v w e = go (ltb budget (count_of v)) refl e
             pick (inr l) = l
 
 -- what is told in the end
-pub finished : (cap : ℕ) (v whole : Verdict) → v ≡ whole → count_of v ≤ cap → Decided v ≡ told cap whole
-finished cap v whole e l = sym (told_decided cap v l) ∙ ap (told cap) e
+pub finished : (cap : ℕ) (v whole : Verdict) → v ≡ whole → count_of v ≤ cap → Decided v ≡ under_budget cap whole
+finished cap v whole e l = sym (told_decided cap v l) ∙ ap (under_budget cap) e

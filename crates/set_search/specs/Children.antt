@@ -6,7 +6,7 @@ use Rattle.packing_terms.specs.Tokens.{PlainToken}
 use Rattle.packing_terms.specs.Tokens.PlainToken.{SetRefuted}
 use Rattle.tree_terms.specs.Trees.{Verdict, Yes, No, count_of}
 use Rattle.tree_terms.specs.OuterTrees.{set_verdict}
-use Rattle.tree_terms.specs.Paths.{most_budget}
+use Rattle.tree_terms.specs.Paths.{max_budget}
 use Rattle.set_search.specs.declared.child.Child.{Child}
 use Rattle.set_search.specs.declared.child.Child.TheVariants.{Past, Refuted, Fits}
 
@@ -43,7 +43,7 @@ IsChild instance scales left set bin old new (Fits keep numbers own) =
 
 -- yes, with a count within the greatest budget
 abbrev pub IsFound : Verdict → Type 0
-IsFound (Yes numbers count) = count ≤ most_budget
+IsFound (Yes numbers count) = count ≤ max_budget
 IsFound (No tokens count) = ⊥
 
 -- a set of boxes that is found to fit within the greatest budget

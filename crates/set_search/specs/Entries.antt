@@ -1,5 +1,5 @@
 -- Entries of a memory as the plain data of the definitions.
-use Rattle.set_search.specs.declared.memory.Entry.{Entry}
+use Rattle.set_search.specs.declared.cache.Entry.{Entry}
 use Rattle.work_share.specs.Outcomes.{plain_outcome}
 use Rattle.set_search.specs.Memories.{PlainEntry}
 

@@ -6,7 +6,7 @@ use Rattle.packing_terms.specs.Packing.{PlainInstance}
 use Rattle.packing_terms.specs.Goals.{IsBoxSet}
 use Rattle.packing_terms.specs.Tokens.{PlainToken}
 use Rattle.packing_terms.specs.Tokens.PlainToken.{SetRefuted}
-use Rattle.tree_terms.specs.Trees.{Verdict, PlainOutcome, Decided, Past, Yes, No, count_of, told}
+use Rattle.tree_terms.specs.Trees.{Verdict, PlainOutcome, Decided, Past, Yes, No, count_of, under_budget}
 use Rattle.tree_terms.specs.OuterTrees.{set_verdict}
 use Rattle.edge_state.specs.BitRows.{row_has}
 
@@ -96,7 +96,7 @@ IsCopied other old e = Contains other e ⊎ Contains old e
 -- the outcome of an entry is the verdict on each set that has its boxes, told under its budget
 pub record IsVerdict (instance : PlainInstance) (scales : Bool) (e : PlainEntry) : Type 0 where
   pub is : (keep : List ℕ) → IsBoxSet instance keep → HasBoxes e.boxes keep
-      → e.outcome ≡ told e.budget (set_verdict instance scales keep)
+      → e.outcome ≡ under_budget e.budget (set_verdict instance scales keep)
 
 -- each entry is right
 abbrev pub AreVerdicts : PlainInstance → Bool → List PlainEntry → Type 0

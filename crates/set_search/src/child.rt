@@ -9,9 +9,9 @@ ghost use Rattle.set_search.specs.Memories.{HasBoxes};
 
 use crate::insert::fill_with;
 use crate::key::SetKey;
-use crate::search::{MOST_BUDGET, SetSearch, Source};
+use crate::search::{MAX_BUDGET, SetSearch, Source};
 use box_instances::NoMemory;
-use proof_tree::{Outcome, Token, TokenList};
+use proof_tree::{CompactTokens, Outcome, Token};
 use std::alloc::Global;
 
 /// What a child of an outer tree comes to whose set grew by one box: its own count, which is 1 and
@@ -37,14 +37,14 @@ impl<'a> SetSearch<'a> {
     /// Where the set is refuted, that is appended to the tokens, of this bin or without a number,
     /// and what refutes it. Where it isn't, the tokens are as before. Where memory is refused, they
     /// are those of before with some more behind them at most.
-    pub fn grow(
+    pub fn decide_with_box(
         &mut self,
         alloc: Global,
         keep: &[u32],
         v: u32,
         left: u64,
         bin: Option<u32>,
-        tokens: &mut TokenList,
+        tokens: &mut CompactTokens,
     ) -> Result<Child, NoMemory>
         requires { IsBoxSet self.old.instance (insert_box v keep.now) }
         ensures same { self.new ≡ self.old }
@@ -77,7 +77,7 @@ impl<'a> SetSearch<'a> {
         key: &SetKey,
         left: u64,
         bin: Option<u32>,
-        tokens: &mut TokenList,
+        tokens: &mut CompactTokens,
     ) -> Result<Child, NoMemory>
         requires some { 1 ≤ length set.items }
         requires boxes { HasBoxes key.now.boxes set.items }
@@ -116,7 +116,7 @@ impl<'a> SetSearch<'a> {
         ensures answer { IfOk result (λ numbers. numbers.items
             ≡ yes_numbers (set_verdict self.old.instance self.old.scales keep.now)) }
     {
-        match self.decide(alloc, keep, MOST_BUDGET)? {
+        match self.decide(alloc, keep, MAX_BUDGET)? {
             Outcome::Yes { numbers, count: _ } => Ok(numbers),
             Outcome::No {
                 tokens: _tokens,

@@ -5,7 +5,7 @@ ghost use Rattle.work_share.specs.Outcomes.{plain_outcome};
 ghost use Rattle.set_search.specs.Memories.{plain_count, plain_size, retold, Serves, IsToldOutcome};
 
 use box_instances::NoMemory;
-use proof_tree::{Outcome, Token, TokenList};
+use proof_tree::{CompactTokens, Outcome, Token};
 use std::alloc::Global;
 
 // How many numbers and tokens an outcome holds.
@@ -94,7 +94,7 @@ pub(crate) fn push_refuted(
     alloc: Global,
     budget: u64,
     bin: Option<u32>,
-    tokens: &mut TokenList,
+    tokens: &mut CompactTokens,
 ) -> Result<Option<u64>, NoMemory>
     ensures told { IfOk result (λ found. IsToldOutcome (plain_outcome outcome.now) budget bin
         tokens.old tokens.new found) }

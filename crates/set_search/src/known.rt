@@ -3,15 +3,15 @@ ghost use Rattle.std.specs.Prelude.{◌≡◌, true, List, ℕ, IfOk, IfSome, On
 ghost use Rattle.packing_terms.specs.Goals.{IsBoxSet};
 ghost use Rattle.proof_tree.specs.Shorts.{AreLonger};
 ghost use Rattle.set_search.specs.Memories.{HasBoxes, IsToldNo};
-ghost use Rattle.tree_terms.specs.Trees.{told};
+ghost use Rattle.tree_terms.specs.Trees.{under_budget};
 ghost use Rattle.tree_terms.specs.OuterTrees.{set_verdict};
 ghost use Rattle.work_share.specs.Outcomes.{plain_outcome};
 
+use crate::cache::SetCache;
 use crate::key::SetKey;
-use crate::memory::SetMemory;
 use box_instances::{Instance, NoMemory};
 use class_search::are_same_instances;
-use proof_tree::{Outcome, TokenList};
+use proof_tree::{CompactTokens, Outcome};
 use std::alloc::Global;
 use std::marker::Model;
 
@@ -20,7 +20,7 @@ use std::marker::Model;
 pub(crate) struct KnownSets<'a> {
     whole: &'a Instance,
     scales: bool,
-    memory: SetMemory,
+    memory: SetCache,
 }
 
 impl<'a> Model for KnownSets<'a> {
@@ -42,7 +42,7 @@ impl<'a> KnownSets<'a> {
         KnownSets {
             whole,
             scales,
-            memory: SetMemory::new(alloc),
+            memory: SetCache::new(alloc),
         }
     }
 
@@ -53,7 +53,7 @@ impl<'a> KnownSets<'a> {
         KnownSets {
             whole,
             scales,
-            memory: SetMemory::small(alloc),
+            memory: SetCache::small(alloc),
         }
     }
 
@@ -80,7 +80,7 @@ impl<'a> KnownSets<'a> {
         key: &SetKey,
         budget: u64,
         bin: Option<u32>,
-        tokens: &mut TokenList,
+        tokens: &mut CompactTokens,
     ) -> Result<Option<u64>, NoMemory>
         ensures told { IfOk result (λ found. (keep : List ℕ) → HasBoxes key.now.boxes keep
             → IsBoxSet self.now.instance keep
@@ -101,7 +101,7 @@ impl<'a> KnownSets<'a> {
         ensures { IfOk result (λ found. IfSome found (λ r. (keep : List ℕ)
             → HasBoxes key.now.boxes keep → IsBoxSet self.now.instance keep
             → plain_outcome r
-            ≡ told budget (set_verdict self.now.instance self.now.scales keep))) }
+            ≡ under_budget budget (set_verdict self.now.instance self.now.scales keep))) }
     {
         self.memory.recall(alloc, key, budget)
     }
@@ -123,7 +123,7 @@ impl<'a> KnownSets<'a> {
         requires boxes { HasBoxes key.now.boxes keep.now }
         requires set { IsBoxSet self.old.instance keep.now }
         requires found { plain_outcome found.now
-            ≡ told budget (set_verdict self.old.instance self.old.scales keep.now) }
+            ≡ under_budget budget (set_verdict self.old.instance self.old.scales keep.now) }
         ensures { self.new ≡ self.old }
     {
         self.memory.keep(alloc, key, budget, found);

@@ -3,12 +3,12 @@
 #![tactic(auto)]
 
 mod answer;
+mod cache;
 mod child;
 mod insert;
 mod kept;
 mod key;
 mod known;
-mod memory;
 mod pool;
 mod search;
 mod shared;
@@ -16,4 +16,4 @@ mod shared;
 pub use answer::push_coordinates;
 pub use child::Child;
 pub use insert::{put_box, with_box};
-pub use search::{MOST_BUDGET, SetSearch};
+pub use search::{MAX_BUDGET, SetSearch};

@@ -17,7 +17,7 @@ const MOST_IDLE: usize = 64;
 
 // Lock attempts before giving up. A holder pushes or pops one search, which takes less time than
 // this many attempts.
-const MOST_TRIES: u32 = 10_000;
+const MAX_LOCK_TRIES: u32 = 10_000;
 
 // The parts of a search whose task is done, without its pool. It is seen as that search.
 #[derive(Drop)]
@@ -100,7 +100,7 @@ impl<'a> SearchPool<'a> {
 
     // Locks the pool, unless another worker stays in it.
     fn enter(&self) -> Option<MutexGuard<'_, Vec<IdleSearch<'a>>>> {
-        for _ in 0..MOST_TRIES {
+        for _ in 0..MAX_LOCK_TRIES {
             if let Some(guard) = self.idle.try_lock() {
                 return Some(guard);
             }

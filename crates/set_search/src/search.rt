@@ -1,12 +1,12 @@
 //! The decision of sets of the boxes of one instance.
 ghost use Rattle.std.specs.Prelude.{◌≡◌, ◌≤◌, ℕ, List, length, IfOk, IfSome, OnOk, OnErr, []};
 ghost use Rattle.packing_terms.specs.Goals.{subset, IsBoxSet};
-ghost use Rattle.packing_terms.specs.Limits.{IsDimCount, most_boxes};
+ghost use Rattle.packing_terms.specs.Limits.{IsDimCount, max_boxes};
 ghost use Rattle.set_search.specs.Searches.{AreClosers};
 ghost use Rattle.proof_tree.specs.Shorts.{AreLonger};
 ghost use Rattle.set_search.specs.Memories.{HasBoxes, IsToldNo};
 ghost use Rattle.packing_terms.specs.OuterRefutation.{insert_box};
-ghost use Rattle.tree_terms.specs.Trees.{told};
+ghost use Rattle.tree_terms.specs.Trees.{under_budget};
 ghost use Rattle.tree_terms.specs.OuterTrees.{set_verdict};
 ghost use Rattle.work_share.specs.Outcomes.{plain_outcome};
 ghost use Rattle.class_search.specs.Right.{IsRight};
@@ -19,7 +19,7 @@ use crate::shared::SharedSets;
 use box_instances::{BoxSet, Instance, NoMemory};
 use class_search::decide_in;
 use edge_state::EdgeState;
-use proof_tree::{Outcome, TokenList};
+use proof_tree::{CompactTokens, Outcome};
 use rule_closure::Closer;
 use std::alloc::Global;
 use std::marker::Model;
@@ -27,11 +27,11 @@ use std::mem;
 use std::sync::Arc;
 
 /// The greatest budget.
-pub const MOST_BUDGET: u64 = 10_000_000;
+pub const MAX_BUDGET: u64 = 10_000_000;
 
 // A task decides a set under so many times the branchings that it has left, since its children come
 // to the set again, and would begin it anew.
-const REACH: u64 = 8;
+const PROBE_LIMIT: u64 = 8;
 
 // But under no more than so many, if it has less left. Of the refuted sets of two knapsacks of 30
 // and 36 boxes, one of 5,000 has more.
@@ -90,14 +90,14 @@ impl<'a> Model for SetSearch<'a> {
 }
 
 // Makes the room of a closing, for each number of boxes up to this one that has none.
-fn reach_closers(
+fn ensure_closers(
     alloc: Global,
     dims: u32,
     boxes: u32,
     closers: &mut Vec<Closer>,
 ) -> Result<(), NoMemory>
     requires dims { IsDimCount dims }
-    requires few { boxes ≤ most_boxes }
+    requires few { boxes ≤ max_boxes }
     requires rooms { AreClosers dims closers.old.items }
     ensures rooms { AreClosers dims closers.new.items }
     ensures enough { OnOk result (boxes ≤ length closers.new.items) }
@@ -115,7 +115,7 @@ fn reach_closers(
 fn reach_of(budget: u64) -> u64
     ensures { budget ≤ result }
 {
-    let reach = budget.saturating_mul(REACH).min(MOST_REACH);
+    let reach = budget.saturating_mul(PROBE_LIMIT).min(MOST_REACH);
     if reach < budget { budget } else { reach }
 }
 
@@ -214,12 +214,12 @@ impl<'a> SetSearch<'a> {
         requires set { IsBoxSet self.old.instance keep.now }
         ensures same { self.new ≡ self.old }
         ensures outcome { IfOk result (λ r. plain_outcome r
-            ≡ told budget (set_verdict self.old.instance self.old.scales keep.now)) }
+            ≡ under_budget budget (set_verdict self.old.instance self.old.scales keep.now)) }
     {
         // For the proof alone: tells the limits of the instance.
         let _limits = self.whole.len();
         let boxes = keep.len() as u32;
-        reach_closers(alloc, self.whole.dims(), boxes, &mut self.closers)?;
+        ensure_closers(alloc, self.whole.dims(), boxes, &mut self.closers)?;
         self.set.set_to(keep);
         self.state.resize(boxes);
         let closer = &mut self.closers[keep.len() - 1];
@@ -274,7 +274,7 @@ impl<'a> SetSearch<'a> {
         requires boxes { HasBoxes key.now.boxes keep.now }
         requires set { IsBoxSet self.old.instance keep.now }
         requires found { plain_outcome found.now
-            ≡ told budget (set_verdict self.old.instance self.old.scales keep.now) }
+            ≡ under_budget budget (set_verdict self.old.instance self.old.scales keep.now) }
         ensures { self.new ≡ self.old }
     {
         self.own.keep(alloc, keep, key, budget, found);
@@ -295,7 +295,7 @@ impl<'a> SetSearch<'a> {
         ensures { IfOk result (λ found. IfSome found (λ r. (keep : List ℕ)
             → HasBoxes key.now.boxes keep → IsBoxSet self.now.instance keep
             → plain_outcome r
-            ≡ told budget (set_verdict self.now.instance self.now.scales keep))) }
+            ≡ under_budget budget (set_verdict self.now.instance self.now.scales keep))) }
     {
         match source {
             Source::Own => self.own.recall(alloc, key, budget),
@@ -325,7 +325,7 @@ impl<'a> SetSearch<'a> {
         key: &SetKey,
         budget: u64,
         bin: Option<u32>,
-        tokens: &mut TokenList,
+        tokens: &mut CompactTokens,
     ) -> Result<Option<u64>, NoMemory>
         ensures told { IfOk result (λ found. (keep : List ℕ) → HasBoxes key.now.boxes keep
             → IsBoxSet self.now.instance keep
@@ -350,7 +350,7 @@ impl<'a> SetSearch<'a> {
         requires set { IsBoxSet self.old.instance keep.now }
         ensures same { self.new ≡ self.old }
         ensures outcome { IfOk result (λ r. plain_outcome r
-            ≡ told budget (set_verdict self.old.instance self.old.scales keep.now)) }
+            ≡ under_budget budget (set_verdict self.old.instance self.old.scales keep.now)) }
         ensures right { IfOk result (λ r.
             IsRight (subset self.old.instance keep.now) [] (plain_outcome r)) }
     {
@@ -375,7 +375,7 @@ impl<'a> SetSearch<'a> {
         requires set { IsBoxSet self.old.instance keep.now }
         ensures same { self.new ≡ self.old }
         ensures outcome { IfOk result (λ r. plain_outcome r
-            ≡ told budget (set_verdict self.old.instance self.old.scales keep.now)) }
+            ≡ under_budget budget (set_verdict self.old.instance self.old.scales keep.now)) }
         ensures right { IfOk result (λ r.
             IsRight (subset self.old.instance keep.now) [] (plain_outcome r)) }
     {

@@ -3,21 +3,21 @@ ghost use Rattle.std.specs.Prelude.{◌≡◌, List, ℕ, IfOk, IfSome, OnErr};
 ghost use Rattle.packing_terms.specs.Goals.{IsBoxSet};
 ghost use Rattle.proof_tree.specs.Shorts.{AreLonger};
 ghost use Rattle.set_search.specs.Memories.{HasBoxes, IsToldNo};
-ghost use Rattle.tree_terms.specs.Trees.{told};
+ghost use Rattle.tree_terms.specs.Trees.{under_budget};
 ghost use Rattle.tree_terms.specs.OuterTrees.{set_verdict};
 ghost use Rattle.work_share.specs.Outcomes.{plain_outcome};
 
 use crate::key::SetKey;
 use crate::known::KnownSets;
 use box_instances::{Instance, NoMemory};
-use proof_tree::{Outcome, TokenList};
+use proof_tree::{CompactTokens, Outcome};
 use std::alloc::Global;
 use std::hint::spin_loop;
 use std::sync::{Mutex, MutexGuard};
 
 // Lock attempts before giving up. A holder looks up or copies one outcome, which mostly takes less
 // time than this many attempts.
-const MOST_TRIES: u32 = 10_000;
+const MAX_LOCK_TRIES: u32 = 10_000;
 
 // Decided sets behind a lock. Nothing is known of what another worker left there, so they are
 // tested for their instance at each call. No call waits: while another worker stays, a set counts
@@ -37,7 +37,7 @@ impl<'a> SharedSets<'a> {
 
     // Locks the sets, unless another worker stays there.
     fn enter(&self) -> Option<MutexGuard<'_, KnownSets<'a>>> {
-        for _ in 0..MOST_TRIES {
+        for _ in 0..MAX_LOCK_TRIES {
             if let Some(guard) = self.known.try_lock() {
                 return Some(guard);
             }
@@ -56,7 +56,7 @@ impl<'a> SharedSets<'a> {
         key: &SetKey,
         budget: u64,
         bin: Option<u32>,
-        tokens: &mut TokenList,
+        tokens: &mut CompactTokens,
     ) -> Result<Option<u64>, NoMemory>
         ensures told { IfOk result (λ found. (keep : List ℕ) → HasBoxes key.now.boxes keep
             → IsBoxSet instance.now keep
@@ -85,7 +85,7 @@ impl<'a> SharedSets<'a> {
     ) -> Result<Option<Outcome>, NoMemory>
         ensures { IfOk result (λ found. IfSome found (λ r. (keep : List ℕ)
             → HasBoxes key.now.boxes keep → IsBoxSet instance.now keep
-            → plain_outcome r ≡ told budget (set_verdict instance.now scales keep))) }
+            → plain_outcome r ≡ under_budget budget (set_verdict instance.now scales keep))) }
     {
         let Some(guard) = self.enter() else {
             return Ok(None);
@@ -127,7 +127,7 @@ impl<'a> SharedSets<'a> {
         requires boxes { HasBoxes key.now.boxes keep.now }
         requires set { IsBoxSet instance.now keep.now }
         requires found { plain_outcome found.now
-            ≡ told budget (set_verdict instance.now scales keep.now) }
+            ≡ under_budget budget (set_verdict instance.now scales keep.now) }
     {
         let Some(mut guard) = self.enter() else {
             return;

@@ -5,7 +5,7 @@ use Rattle.std.specs.Prelude.{◌==◌, if◌then◌else◌}
 use Rattle.std.proofs.lemmas.Bool.{ne_eqb, eq-eqb}
 use Rattle.packing_terms.specs.Tokens.{PlainToken}
 use Rattle.tree_terms.specs.Levels.{PlainLevel, PlacedBy, RefutedBy, SpentAt, PlainReached, distance, halfway, moved}
-use Rattle.tree_terms.specs.Levels.{is_run_over, run_on, IsLevelBetween}
+use Rattle.tree_terms.specs.Levels.{is_run_over, bisect_for, IsLevelBetween}
 use Rattle.tree_terms.proofs.Runs.{not_over, halfway_between}
 use Rattle.tree_terms.proofs.LevelOrder.{rising_end}
 use Rattle.answer_terms.specs.Walks.{PlainFront, levels_from, spent_front, whole_front, front_after, corner_unless_empty}
@@ -18,7 +18,7 @@ retold r ts t = record t { tokens = (if t.refuted == r then ts else t.tokens) }
 
 module _ (answer : ℕ → PlainLevel) (r : ℕ) (ts : List PlainToken) where
   retold_on : (k : ℕ) (t : PlainReached) → r ≤ t.refuted → r ≤ t.placed
-      → run_on answer k (retold r ts t) ≡ retold r ts (run_on answer k t)
+      → bisect_for answer k (retold r ts t) ≡ retold r ts (bisect_for answer k t)
   retold_on zero t l m = refl
   retold_on (suc k) t l m = go (is_run_over t) refl (λ s a b. retold_on k s a b)
     where
@@ -34,32 +34,32 @@ module _ (answer : ℕ → PlainLevel) (r : ℕ) (ts : List PlainToken) where
 
       next : (a : PlainLevel) → r < halfway t
           → ((s : PlainReached) → r ≤ s.refuted → r ≤ s.placed
-          → run_on answer k (retold r ts s) ≡ retold r ts (run_on answer k s))
-          → run_on answer k (retold r ts (moved t (halfway t) a))
-          ≡ retold r ts (run_on answer k (moved t (halfway t) a))
+          → bisect_for answer k (retold r ts s) ≡ retold r ts (bisect_for answer k s))
+          → bisect_for answer k (retold r ts (moved t (halfway t) a))
+          ≡ retold r ts (bisect_for answer k (moved t (halfway t) a))
       next (PlacedBy ns) b later = later (moved t (halfway t) (PlacedBy ns)) l (omega (arith, b))
       next (RefutedBy us) b later = later (moved t (halfway t) (RefutedBy us)) (omega (arith, b)) m
       next SpentAt b later = later (moved t (halfway t) SpentAt) l m
 
       go : (b : Bool) → is_run_over t ≡ b
           → ((s : PlainReached) → r ≤ s.refuted → r ≤ s.placed
-          → run_on answer k (retold r ts s) ≡ retold r ts (run_on answer k s))
+          → bisect_for answer k (retold r ts s) ≡ retold r ts (bisect_for answer k s))
           → elim b [
             | true ↦ retold r ts t
             | false ↦
-                run_on answer k (moved (retold r ts t) (halfway t) (answer (halfway t)))
+                bisect_for answer k (moved (retold r ts t) (halfway t) (answer (halfway t)))
           ]
-          ≡ retold r ts (elim b [ true ↦ t | false ↦ run_on answer k (moved t (halfway t) (answer (halfway t))) ])
+          ≡ retold r ts (elim b [ true ↦ t | false ↦ bisect_for answer k (moved t (halfway t) (answer (halfway t))) ])
       go true e later = refl
       go false e later =
           let b = above (halfway_between t (not_over t e).1) in
-          ap (λ (s : PlainReached). run_on answer k s) (same (answer (halfway t)) b) ∙ next (answer (halfway t)) b later
+          ap (λ (s : PlainReached). bisect_for answer k s) (same (answer (halfway t)) b) ∙ next (answer (halfway t)) b later
 
 module _ (answer : ℕ → ℕ → PlainLevel) (most : ℕ) where
   pub retold_run : (h r : ℕ) (ts : List PlainToken) (ps : List ℕ) → r ≤ most
       → width_run answer most h r ts ps ≡ retold r ts (width_run answer most h r [] ps)
   retold_run h r ts ps l =
-      ap (λ (s : PlainReached). run_on (λ w. answer w h) (distance (levels_from r [] most ps)) s) first
+      ap (λ (s : PlainReached). bisect_for (λ w. answer w h) (distance (levels_from r [] most ps)) s) first
       ∙ retold_on (λ w. answer w h) r ts (distance (levels_from r [] most ps)) (levels_from r [] most ps)
       (omega arith) l
     where

@@ -9,11 +9,11 @@ use Rattle.packing_terms.specs.Tokens.{PlainToken}
 use Rattle.front_terms.specs.Fronts.{IsClaimed}
 use Rattle.answer_terms.specs.Walks.{PlainCorner, PlainPoint, PlainFront, front_after, whole_front, sizes, walk_on}
 use Rattle.answer_terms.specs.Walks.{size_answer, front_walk}
-use Rattle.answer_terms.specs.Asked.{HasLargeSize}
+use Rattle.answer_terms.specs.Asked.{HasContainerPastBudget}
 use Rattle.answer_terms.proofs.Decided.{walks_are_fronts}
 use Rattle.answer_terms.proofs.Spent.{spent_exactly, enough}
 use Rattle.size_front.specs.declared.front.Front.{Front}
-use Rattle.size_front.specs.declared.rounds.Stand.{Stand}
+use Rattle.size_front.specs.declared.rounds.WalkState.{WalkState}
 use Rattle.size_front.specs.Plain.{plain_front, plain_corner, plain_point, IsRound, IsUnderWay}
 
 pub ok_more : {A E : Type 0} (P Q : A → Type 0) (r : Result A E) → ((a : A) → P a → Q a) → IfOk r P → IfOk r Q
@@ -41,7 +41,7 @@ begun : (front : ℕ → ℕ → List PlainToken → PlainFront) (cs : List Plai
 begun front cs ps h r ts highest e f g k t = rw (e, f, g, k, t) refl
 
 module _ (instance : PlainInstance) (budget : ℕ) (scales : Bool) where
-  pub started : (f : Front) (s : Stand) → f.corners.items ≡ [] → f.points.items ≡ []
+  pub started : (f : Front) (s : WalkState) → f.corners.items ≡ [] → f.points.items ≡ []
       → s.height ≡ written_container instance 1 → s.refuted ≡ 0 → s.tokens ≡ []
       → IsUnderWay instance budget scales f (Some s)
   started f s e f2 h r t = (
@@ -58,7 +58,7 @@ module _ (instance : PlainInstance) (budget : ℕ) (scales : Bool) where
     ),
   )
 
-  pub under_way_next : (old new : Front) (s : Stand) (next : Option Stand)
+  pub under_way_next : (old new : Front) (s : WalkState) (next : Option WalkState)
       → IsUnderWay instance budget scales old (Some s) → IsRound instance budget scales old s new next
       → IsUnderWay instance budget scales new next
   under_way_next old new s next (l, m, (zero, less, e)) round = absurd (omega (arith, less))
@@ -73,8 +73,8 @@ module _ (instance : PlainInstance) (budget : ℕ) (scales : Bool) where
     front_claims = subst (λ (x : PlainFront). IsClaimed instance x.complete (sizes x.points)) (sym walked)
         (walks_are_fronts instance budget scales limits plane)
 
-    pub front_spent : (f.complete ≡ false) ↔ HasLargeSize instance budget scales
-    front_spent = subst (λ (x : PlainFront). (x.complete ≡ false) ↔ HasLargeSize instance budget scales) (sym walked)
+    pub front_spent : (f.complete ≡ false) ↔ HasContainerPastBudget instance budget scales
+    front_spent = subst (λ (x : PlainFront). (x.complete ≡ false) ↔ HasContainerPastBudget instance budget scales) (sym walked)
         (spent_exactly instance budget scales)
 
     pub front_enough : 3 ^ (dims instance * box_count instance * (box_count instance - 1) / 2) ≤ budget + 1

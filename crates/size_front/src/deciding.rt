@@ -1,7 +1,7 @@
 //! The containers of a walk, each decided by its class tree.
 ghost use Rattle.std.specs.Prelude.{◌≡◌, ◌≤◌, IfOk, IfSome, []};
 ghost use Rattle.packing_terms.specs.Packing.{dims, written_container};
-ghost use Rattle.tree_terms.specs.Trees.{outcome, told};
+ghost use Rattle.tree_terms.specs.Trees.{outcome, under_budget};
 ghost use Rattle.tree_terms.specs.ClassTree.{class_tree};
 ghost use Rattle.work_share.specs.Outcomes.{plain_outcome};
 ghost use Rattle.level_search.specs.Runs.{plain_level};
@@ -45,7 +45,7 @@ fn decide_sized<R: Threads + Wait + Sync, G: Gate + Sync>(
     requires { IfSome decider.old (λ d. d ≡ decider_of sized.now) }
     ensures same { decider.new ≡ decider.old }
     ensures outcome { IfOk result (λ r. plain_outcome r
-        ≡ told settings.now.budget (outcome (class_tree sized.now [] settings.now.scales))) }
+        ≡ under_budget settings.now.budget (outcome (class_tree sized.now [] settings.now.scales))) }
 {
     match decider {
         Some(own) => own.decide(alloc, sized, settings.budget, settings.scales),

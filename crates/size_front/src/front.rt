@@ -1,12 +1,12 @@
 //! A front with its certificates.
-use proof_tree::TokenList;
+use proof_tree::CompactTokens;
 
 /// A container of these written sides, and tokens that refute it.
 #[derive(Drop)]
 pub struct Corner {
     pub width: u32,
     pub height: u32,
-    pub tokens: TokenList,
+    pub tokens: CompactTokens,
 }
 
 /// A container of these written sides, and places that are a packing in it.

@@ -14,7 +14,7 @@ use crate::{Corner, Front, Point};
 use box_instances::{Instance, NoMemory};
 use class_search::Decider;
 use level_search::{Level, Reached};
-use proof_tree::TokenList;
+use proof_tree::CompactTokens;
 use std::alloc::Global;
 use std::sync::Wait;
 use std::thread::Threads;
@@ -22,10 +22,10 @@ use work_share::{Gate, Settings};
 
 // Where a walk stands: at a height, and at a width that the tokens refute there, or 0.
 #[derive(Drop)]
-pub struct Stand {
+pub struct WalkState {
     pub height: u32,
     pub refuted: u32,
-    pub tokens: TokenList,
+    pub tokens: CompactTokens,
 }
 
 // Adds a corner, unless its width is 0.
@@ -33,7 +33,7 @@ fn push_corner(
     front: &mut Front,
     width: u32,
     height: u32,
-    tokens: TokenList,
+    tokens: CompactTokens,
 ) -> Result<(), NoMemory>
     ensures complete { front.new.complete ≡ front.old.complete }
     ensures points { front.new.points ≡ front.old.points }
@@ -75,7 +75,7 @@ fn push_point(front: &mut Front, width: u32, height: u32, places: Vec<u32>) -> R
 }
 
 // Ends a walk where a decision was spent: the corner at which it stands closes it.
-fn end_spent(front: &mut Front, stand: Stand) -> Result<(), NoMemory>
+fn end_spent(front: &mut Front, stand: WalkState) -> Result<(), NoMemory>
     ensures { OnOk result (plain_front front.new
         ≡ joined front.old (spent_front stand.refuted stand.height
         stand.tokens)) }
@@ -85,7 +85,12 @@ fn end_spent(front: &mut Front, stand: Stand) -> Result<(), NoMemory>
 }
 
 // Ends a walk where the widest container is refuted.
-fn end_closed(front: &mut Front, width: u32, height: u32, tokens: TokenList) -> Result<(), NoMemory>
+fn end_closed(
+    front: &mut Front,
+    width: u32,
+    height: u32,
+    tokens: CompactTokens,
+) -> Result<(), NoMemory>
     requires { 1 ≤ width }
     ensures { OnOk result (plain_front front.new
         ≡ joined front.old (closed_front width height tokens)) }
@@ -95,7 +100,7 @@ fn end_closed(front: &mut Front, width: u32, height: u32, tokens: TokenList) -> 
 }
 
 // The tokens of a refuted width: those of where the walk stands, where it is the same width.
-fn told_tokens(stand: Stand, refuted: u32, tokens: TokenList) -> TokenList
+fn told_tokens(stand: WalkState, refuted: u32, tokens: CompactTokens) -> CompactTokens
     ensures { result ≡ (if refuted == stand.refuted then stand.tokens else tokens) }
 {
     if refuted == stand.refuted {
@@ -110,13 +115,13 @@ fn lower<R: Threads + Wait + Sync, G: Gate + Sync>(
     rt: &R,
     alloc: Global,
     instance: &Instance,
-    stand: Stand,
+    stand: WalkState,
     widths: Reached,
     front: &mut Front,
     decider: &mut Option<Decider>,
     settings: &Settings,
     gate: &G,
-) -> Result<Option<Stand>, NoMemory>
+) -> Result<Option<WalkState>, NoMemory>
     requires plane { dims instance.now ≡ 2 }
     requires height { stand.height ≤ written_container instance.now 1 }
     requires refuted { stand.refuted ≤ written_container instance.now 0 }
@@ -159,7 +164,7 @@ fn lower<R: Threads + Wait + Sync, G: Gate + Sync>(
         front.complete = true;
         return Ok(None);
     }
-    Ok(Some(Stand {
+    Ok(Some(WalkState {
         height: heights.refuted as u32,
         refuted: width,
         tokens: heights.tokens,
@@ -171,13 +176,13 @@ fn narrow<R: Threads + Wait + Sync, G: Gate + Sync>(
     rt: &R,
     alloc: Global,
     instance: &Instance,
-    stand: Stand,
+    stand: WalkState,
     places: Vec<u32>,
     front: &mut Front,
     decider: &mut Option<Decider>,
     settings: &Settings,
     gate: &G,
-) -> Result<Option<Stand>, NoMemory>
+) -> Result<Option<WalkState>, NoMemory>
     requires plane { dims instance.now ≡ 2 }
     requires height { stand.height ≤ written_container instance.now 1 }
     requires refuted { stand.refuted ≤ written_container instance.now 0 }
@@ -213,12 +218,12 @@ pub(crate) fn one_round<R: Threads + Wait + Sync, G: Gate + Sync>(
     rt: &R,
     alloc: Global,
     instance: &Instance,
-    stand: Stand,
+    stand: WalkState,
     front: &mut Front,
     decider: &mut Option<Decider>,
     settings: &Settings,
     gate: &G,
-) -> Result<Option<Stand>, NoMemory>
+) -> Result<Option<WalkState>, NoMemory>
     requires plane { dims instance.now ≡ 2 }
     requires height { stand.height ≤ written_container instance.now 1 }
     requires refuted { stand.refuted ≤ written_container instance.now 0 }

@@ -3,14 +3,14 @@ ghost use Rattle.std.specs.Prelude.{◌≡◌, ◌≤◌, ◌+◌, ◌-◌, ◌*
 ghost use Rattle.packing_terms.specs.Packing.{dims, box_count};
 ghost use Rattle.front_terms.specs.Fronts.{IsClaimed};
 ghost use Rattle.answer_terms.specs.Walks.{sizes, front_walk};
-ghost use Rattle.answer_terms.specs.Asked.{HasLargeSize};
+ghost use Rattle.answer_terms.specs.Asked.{HasContainerPastBudget};
 ghost use Rattle.size_front.specs.Plain.{plain_front, plain_point};
 
 use crate::Front;
 use crate::deciding::decider_for;
-use crate::rounds::{Stand, one_round};
+use crate::rounds::{WalkState, one_round};
 use box_instances::{Instance, NoMemory};
-use proof_tree::TokenList;
+use proof_tree::CompactTokens;
 use std::alloc::Global;
 use std::sync::Wait;
 use std::thread::Threads;
@@ -34,10 +34,10 @@ fn walk_along<R: Threads + Wait + Sync, G: Gate + Sync>(
         corners: Vec::new(alloc),
         points: Vec::new(alloc),
     };
-    let mut next = Some(Stand {
+    let mut next = Some(WalkState {
         height: instance.written_container(1),
         refuted: 0,
-        tokens: TokenList::new(alloc),
+        tokens: CompactTokens::new(alloc),
     });
     while let Some(stand) = next {
         next = one_round(
@@ -74,7 +74,7 @@ pub fn least_sizes<R: Threads + Wait + Sync, G: Gate + Sync>(
     ensures claim { IfOk result
         (λ f. IsClaimed instance.now f.complete (sizes (map plain_point f.points.items))) }
     ensures spent { IfOk result (λ f. (f.complete ≡ false)
-        ↔ HasLargeSize instance.now settings.now.budget settings.now.scales) }
+        ↔ HasContainerPastBudget instance.now settings.now.budget settings.now.scales) }
     ensures enough { 3 ^ (dims instance.now * box_count instance.now
         * (box_count instance.now - 1) / 2) ≤ settings.now.budget + 1
         → IfOk result (λ f. f.complete ≡ true) }

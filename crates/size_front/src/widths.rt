@@ -9,7 +9,7 @@ use crate::deciding::decide_size;
 use box_instances::{Instance, NoMemory};
 use class_search::Decider;
 use level_search::Reached;
-use proof_tree::TokenList;
+use proof_tree::CompactTokens;
 use std::alloc::Global;
 use std::sync::Wait;
 use std::thread::Threads;
@@ -43,7 +43,7 @@ pub(crate) fn run_widths<R: Threads + Wait + Sync, G: Gate + Sync>(
     // For the proof alone: tells the limits of the instance.
     let _limits = instance.len();
     let most = instance.written_container(0);
-    let tokens = TokenList::new(alloc);
+    let tokens = CompactTokens::new(alloc);
     let mut reached = Reached::starting(u64::from(refuted), tokens, u64::from(most), places);
     while let Some(level) = reached.next_level() {
         let width = level as u32;

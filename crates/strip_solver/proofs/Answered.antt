@@ -5,7 +5,7 @@ use Rattle.std.proofs.lemmas.Bool.{true≢false}
 use Rattle.packing_terms.specs.declared.Exclusion.{Exclusion}
 use Rattle.packing_terms.specs.Packing.{PlainInstance, IsPacking, Fits, dims, box_count}
 use Rattle.packing_terms.specs.Goals.{with_last_side, HasTooWideBox, IsLeastHeight}
-use Rattle.packing_terms.specs.Limits.{IsInternalInstance, most_height}
+use Rattle.packing_terms.specs.Limits.{IsInternalInstance, max_height}
 use Rattle.packing_terms.specs.TooLarge.{IsFirstTooWide}
 use Rattle.packing_terms.specs.Refutation.{Refutes}
 use Rattle.packing_terms.proofs.Neighbours.{fits_higher}
@@ -60,7 +60,7 @@ module _ (start : List Exclusion) (instance : PlainInstance) (limits : IsInterna
   ended = subst (λ (y : PlainReached). IsRisingEnd (first_heights instance) y) (sym run)
       (end_from instance start budget scales limits)
 
-  pub placed_small : r.placed ≤ most_height
+  pub placed_small : r.placed ≤ max_height
   placed_small = let a = ended.high in let b = stack_small instance limits in omega (arith, a, b)
 
   pub true_told : (s : Strip) → Tells r s → IsTrueStripFrom start instance s

@@ -4,7 +4,7 @@ use Rattle.std.proofs.Common.{append_assoc, eqb, if◌then◌else◌}
 use Rattle.std.specs.List.{flat_map}
 use Rattle.std.proofs.lemmas.List.FromFn.{map-range_with_len_more}
 use Rattle.packing_terms.specs.Packing.{PlainInstance, dims, box_count}
-use Rattle.packing_terms.specs.Limits.{IsInternalInstance, most_side}
+use Rattle.packing_terms.specs.Limits.{IsInternalInstance, max_side}
 use Rattle.packing_terms.proofs.Internal.{side_small}
 use Rattle.packing_terms.specs.Sums.{sum_below, below}
 use Rattle.packing_terms.proofs.Ranges.{flat_map_last_below}
@@ -15,7 +15,7 @@ use Rattle.strip_solver.specs.Stacked.{stacked}
 pub record IsStack (instance : PlainInstance) (v : ℕ) (places : List ℕ) (height : ℕ) : Type 0 where
   pub places_are : places ≡ flat_map (λ u. stacked (dims instance) (sum_below u (λ x. last_side instance x))) (below v)
   pub height_is : height ≡ sum_below v (λ x. last_side instance x)
-  pub to : height ≤ v * most_side
+  pub to : height ≤ v * max_side
 
 pub stack_next : (instance : PlainInstance) → IsInternalInstance instance
     → (v : ℕ) (places more : List ℕ) (height d side : ℕ) → v < box_count instance

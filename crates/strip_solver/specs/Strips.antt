@@ -7,7 +7,7 @@ use Rattle.packing_terms.specs.TooLarge.{IsFirstTooWide}
 use Rattle.packing_terms.specs.Refutation.{Refutes}
 use Rattle.packing_terms.specs.Tokens.{PlainToken}
 use Rattle.tree_terms.specs.Levels.{PlainReached}
-use Rattle.reduced_levels.specs.Heights.{height_run_from, HasLargeHeightFrom}
+use Rattle.reduced_levels.specs.Heights.{height_run_from, HasHeightPastBudgetFrom}
 use Rattle.strip_solver.specs.declared.strip.Strip.{Strip}
 use Rattle.strip_solver.specs.declared.strip.Strip.TheVariants.{Least, Between, NoneFits}
 
@@ -67,9 +67,9 @@ IsTrueStripFrom start instance (NoneFits v i) = (h : ℕ) → ¬ Fits (with_last
 -- `Between` exactly where some height on the run has more branchings than the budget
 abbrev pub IsSpentExactlyFrom : List Exclusion → PlainInstance → ℕ → Bool → Strip → Type 0
 IsSpentExactlyFrom start instance budget scales (Least height places tokens) =
-    ¬ HasLargeHeightFrom start instance budget scales
+    ¬ HasHeightPastBudgetFrom start instance budget scales
 IsSpentExactlyFrom start instance budget scales (Between refuted tokens height places) =
-    HasLargeHeightFrom start instance budget scales
+    HasHeightPastBudgetFrom start instance budget scales
 IsSpentExactlyFrom start instance budget scales (NoneFits v i) = Unit {0}
 
 -- the same from no exclusion: the run is `height_run`

@@ -2,7 +2,7 @@
 ghost use Rattle.std.specs.Prelude.{◌≡◌, ◌<◌, ℕ, IfOk, IfSome};
 ghost use Rattle.packing_terms.specs.Exclusions.{AreAtEdges};
 ghost use Rattle.packing_terms.specs.Goals.{with_last_side};
-ghost use Rattle.tree_terms.specs.Trees.{outcome, told};
+ghost use Rattle.tree_terms.specs.Trees.{outcome, under_budget};
 ghost use Rattle.tree_terms.specs.ClassTree.{class_tree};
 ghost use Rattle.tree_terms.specs.Levels.{first_heights};
 ghost use Rattle.reduced_levels.specs.Heights.{height_answer_from};
@@ -53,7 +53,7 @@ fn decide_tall<R: Threads + Wait + Sync, G: Gate + Sync>(
     requires ready { IfSome decider.old (IsReadyFor tall.now start.now) }
     ensures same { decider.new ≡ decider.old }
     ensures outcome { IfOk result (λ r. plain_outcome r
-        ≡ told settings.now.budget (outcome (class_tree tall.now start.now settings.now.scales))) }
+        ≡ under_budget settings.now.budget (outcome (class_tree tall.now start.now settings.now.scales))) }
 {
     match decider {
         Some(own) => own.decide(alloc, tall, settings.budget, settings.scales),

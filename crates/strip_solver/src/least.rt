@@ -3,7 +3,7 @@ ghost use Rattle.std.specs.Prelude.{◌≡◌, ◌<◌, ◌≤◌, ◌+◌, ◌-
 ghost use Rattle.packing_terms.specs.Packing.{dims, box_count};
 ghost use Rattle.packing_terms.specs.Exclusions.{AreAtEdges};
 ghost use Rattle.packing_terms.specs.Goals.{HasTooWideBox, with_last_side};
-ghost use Rattle.packing_terms.specs.Limits.{most_height};
+ghost use Rattle.packing_terms.specs.Limits.{max_height};
 ghost use Rattle.symmetry_terms.specs.Facts.{symmetry_facts};
 ghost use Rattle.tree_terms.specs.Levels.{first_heights};
 ghost use Rattle.reduced_levels.specs.Heights.{height_run_from, DecideHeights};
@@ -17,7 +17,7 @@ use crate::wide::first_too_wide;
 use box_instances::{Instance, NoMemory};
 use class_search::Exclusion;
 use level_search::Reached;
-use proof_tree::{Token, TokenList};
+use proof_tree::{CompactTokens, Token};
 use std::alloc::Global;
 use std::sync::Wait;
 use std::thread::Threads;
@@ -25,12 +25,12 @@ use symmetry_list::facts;
 use work_share::{Gate, Settings};
 
 // The refutation of height 0: box 1 is longer than the container in the last dimension.
-fn no_height(alloc: Global, instance: &Instance) -> Result<TokenList, NoMemory>
+fn no_height(alloc: Global, instance: &Instance) -> Result<CompactTokens, NoMemory>
     ensures { IfOk result (λ tokens. tokens
         ≡ (first_heights instance.now).tokens) }
 {
     let dim = instance.dims();
-    TokenList::of_one(alloc, Token::TooLarge { box_no: 1, dim })
+    CompactTokens::of_one(alloc, Token::TooLarge { box_no: 1, dim })
 }
 
 // The run of heights of an instance none of whose boxes is too wide, with trees that begin with
@@ -74,7 +74,7 @@ fn bisect_heights<R: Threads + Wait + Sync, G: Gate + Sync>(
 fn told(reached: Reached) -> Strip
     requires rising { reached.refuted < reached.placed }
     requires beside { reached.spent ≡ false → suc reached.refuted ≡ reached.placed }
-    requires limit { reached.placed ≤ most_height }
+    requires limit { reached.placed ≤ max_height }
     ensures { Tells (plain_reached reached) result }
 {
     if reached.spent {

@@ -1,7 +1,7 @@
 //! The stack of all boxes.
 ghost use Rattle.std.specs.Prelude.{◌≡◌, ◌<◌, ◌≤◌, ◌++◌, ◌+◌, ◌==◌, if◌then◌else◌, OnOk, IfOk};
 ghost use Rattle.packing_terms.specs.Packing.{box_count};
-ghost use Rattle.packing_terms.specs.Limits.{most_side, most_height};
+ghost use Rattle.packing_terms.specs.Limits.{max_side, max_height};
 ghost use Rattle.tree_terms.specs.Levels.{last_side, first_heights};
 ghost use Rattle.strip_solver.specs.Stacked.{stacked};
 
@@ -19,7 +19,7 @@ pub struct Stack {
 fn last_side(instance: &Instance, v: u32) -> u32
     requires { v < box_count instance.now }
     ensures value { result ≡ last_side instance.now v }
-    ensures to { result ≤ most_side }
+    ensures to { result ≤ max_side }
 {
     instance.side(v, instance.dims() - 1)
 }
@@ -48,7 +48,7 @@ fn push_stacked(places: &mut Vec<u32>, dims: u32, height: u32) -> Result<(), NoM
 pub(crate) fn stack_all(alloc: Global, instance: &Instance) -> Result<Stack, NoMemory>
     ensures places { IfOk result (λ s. s.places.items ≡ (first_heights instance.now).numbers) }
     ensures height { IfOk result (λ s. s.height ≡ (first_heights instance.now).placed) }
-    ensures to { IfOk result (λ s. s.height ≤ most_height) }
+    ensures to { IfOk result (λ s. s.height ≤ max_height) }
 {
     let mut places = Vec::new(alloc);
     let mut height = 0;

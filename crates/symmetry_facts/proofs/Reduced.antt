@@ -7,7 +7,7 @@ use Rattle.packing_terms.specs.Refutation.{Refutes}
 use Rattle.packing_terms.proofs.Internal.{internal_sides, some_dimension}
 use Rattle.packing_terms.proofs.Refuted.{refutes_sound}
 use Rattle.scale_terms.proofs.Excess.{excess_law}
-use Rattle.tree_terms.specs.Trees.{PlainOutcome, Decided, Past, Verdict, Yes, No, outcome, count_of, told}
+use Rattle.tree_terms.specs.Trees.{PlainOutcome, Decided, Past, Verdict, Yes, No, outcome, count_of, under_budget}
 use Rattle.tree_terms.specs.Search.{IsRightUnder}
 use Rattle.tree_terms.specs.ClassTree.{class_tree}
 use Rattle.tree_terms.proofs.Decisions.{class_tree_right}
@@ -23,7 +23,7 @@ module _ (instance : PlainInstance) (limits : IsInternalInstance instance) (scal
       (facts_at_edges instance (some_dimension instance limits)) scales
 
   pub reduced_right : (r : PlainOutcome)
-      → r ≡ told budget (outcome (class_tree instance (symmetry_facts instance) scales))
+      → r ≡ under_budget budget (outcome (class_tree instance (symmetry_facts instance) scales))
       → IsRight instance (symmetry_facts instance) r
   reduced_right r e = rw e (go (nat_lt budget
       (count_of (outcome (class_tree instance (symmetry_facts instance) scales)))))
@@ -44,7 +44,7 @@ module _ (instance : PlainInstance) (limits : IsInternalInstance instance) (scal
   decides_by (No tokens count) h = λ fits. no_fits tokens h fits
 
   pub reduced_decides : (r : PlainOutcome)
-      → r ≡ told budget (outcome (class_tree instance (symmetry_facts instance) scales)) → Decides instance r
+      → r ≡ under_budget budget (outcome (class_tree instance (symmetry_facts instance) scales)) → Decides instance r
   reduced_decides r e = rw e (go
       (nat_lt budget (count_of (outcome (class_tree instance (symmetry_facts instance) scales)))))
     where

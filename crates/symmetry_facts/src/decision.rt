@@ -1,7 +1,7 @@
 //! The decision of one instance from its symmetry facts on.
 ghost use Rattle.std.specs.Prelude.{◌≡◌, ◌≤◌, ◌+◌, ◌-◌, ◌*◌, ◌/◌, ◌^◌, IfOk};
 ghost use Rattle.packing_terms.specs.Packing.{dims, box_count};
-ghost use Rattle.tree_terms.specs.Trees.{outcome, told};
+ghost use Rattle.tree_terms.specs.Trees.{outcome, under_budget};
 ghost use Rattle.tree_terms.specs.ClassTree.{class_tree};
 ghost use Rattle.work_share.specs.Outcomes.{plain_outcome};
 ghost use Rattle.class_search.specs.Right.{IsRight, Decides, IsYesOrNo};
@@ -31,7 +31,7 @@ pub fn decide_reduced<R: Threads + Wait + Sync, G: Gate + Sync>(
     gate: &G,
 ) -> Result<Outcome, NoMemory>
     ensures outcome { IfOk result
-        (λ r. plain_outcome r ≡ told settings.now.budget
+        (λ r. plain_outcome r ≡ under_budget settings.now.budget
         (outcome (class_tree instance.now (symmetry_facts instance.now) settings.now.scales))) }
     ensures right { IfOk result
         (λ r. IsRight instance.now (symmetry_facts instance.now) (plain_outcome r)) }

@@ -3,7 +3,7 @@ use Rattle.std.proofs.Common.{◌≡◌, ℕ, suc, ◌≤◌, Bool, true, false,
 use Rattle.std.proofs.Common.{refl, sym, ap, subst, Result, Ok, Err, Option, Some, None, ◌⊎◌, inl, inr, codes}
 use Rattle.std.specs.Prelude.{nat_le, ◌==◌}
 use Rattle.std.proofs.lemmas.Bool.{leb-true, le-leb, eq-eqb, eqb-true, and_parts, and_from, and_right}
-use Rattle.packing_terms.specs.Limits.{most_boxes}
+use Rattle.packing_terms.specs.Limits.{max_boxes}
 use Rattle.text_terms.specs.Lines.{number_of, same_bytes}
 use Rattle.packing_terms.specs.Results.{◌>>=◌}
 use Rattle.text_terms.specs.Texts.{Ending, first_word, numbers_of, value_of, times_of, has_times_alone, ending_of}
@@ -93,16 +93,16 @@ times_is : (format room : ℕ) (key number : List ℕ) (words : List (List ℕ))
     → IsTimes format key number times
 times_is format room key number words times two e = by_key (same_bytes key (codes "times")) refl e
   where
-    counted : (ranged_number 1 most_boxes number >>= λ n. refuse (not (nat_le n room)) 9 (Ok n)) ≡ Ok times
-        → IsNumber 1 most_boxes number times
+    counted : (ranged_number 1 max_boxes number >>= λ n. refuse (not (nat_le n room)) 9 (Ok n)) ≡ Ok times
+        → IsNumber 1 max_boxes number times
     counted e =
-        let n = bind_ok (ranged_number 1 most_boxes number) (λ n. refuse (not (nat_le n room)) 9 (Ok n)) times e in
+        let n = bind_ok (ranged_number 1 max_boxes number) (λ n. refuse (not (nat_le n room)) 9 (Ok n)) times e in
         let f = refuse_ok (not (nat_le n.0 room)) 9 (Ok n.0) times n.2 in
         let same : n.0 ≡ times = cc (f.1) in
-        subst (IsNumber 1 most_boxes number) same (range_is 1 most_boxes n.0 number n.1)
+        subst (IsNumber 1 max_boxes number) same (range_is 1 max_boxes n.0 number n.1)
 
     by_key : (t : Bool) → same_bytes key (codes "times") ≡ t
-        → cond {A = Result ℕ ℕ} t (ranged_number 1 most_boxes number >>= λ n. refuse (not (nat_le n room)) 9 (Ok n))
+        → cond {A = Result ℕ ℕ} t (ranged_number 1 max_boxes number >>= λ n. refuse (not (nat_le n room)) 9 (Ok n))
         (Err 1) ≡ Ok times → IsTimes format key number times
     by_key true k e = (two, word_is key (codes "times") k, counted e)
     by_key false k e = absurd (cc (e))
@@ -111,7 +111,7 @@ is_times : (format room : ℕ) (key number : List ℕ) (words : List (List ℕ))
     → IsTimes format key number times
     → times_of room (key ∷ number ∷ words) ≡ Ok times
 is_times format room key number words times few is =
-    rw (is_word key (codes "times") is.1, is_range 1 most_boxes times number is.2, le-leb times room few) refl
+    rw (is_word key (codes "times") is.1, is_range 1 max_boxes times number is.2, le-leb times room few) refl
 
 -- `value` isn't `times`
 value_alone : (format : ℕ) (key number : List ℕ) (words : List (List ℕ)) → key ≡ codes "value"

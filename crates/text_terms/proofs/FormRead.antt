@@ -7,7 +7,7 @@ use Rattle.std.specs.List.{list_any, filter}
 use Rattle.std.proofs.lemmas.Bool.{le-leb, lt-leb, eq-eqb, ne_eqb, or_parts, or_left, or_right, and_from}
 use Rattle.std.proofs.lemmas.List.{take_at, drop_at, length-append, length-map, length-replicate}
 use Rattle.packing_terms.specs.Packing.{PlainBox, PlainInstance}
-use Rattle.packing_terms.specs.Limits.{most_boxes, most_side, IsBoxCount}
+use Rattle.packing_terms.specs.Limits.{max_boxes, max_side, IsBoxCount}
 use Rattle.text_terms.specs.Lines.{text_lines, content, is_bad, words_of, same_bytes}
 use Rattle.packing_terms.specs.Results.{◌>>=◌}
 use Rattle.text_terms.specs.Texts.{Parts, no_parts, by_words, container_line, kerf_line, box_line, is_box_length}
@@ -28,13 +28,13 @@ abbrev pub formatted : ℕ → Parts
 formatted n = record no_parts { format = n }
 
 pub limits_count : (kerfs : List ℕ) → length (side_limits kerfs) ≡ length kerfs
-limits_count kerfs = length-map kerfs (λ k. most_side - k)
+limits_count kerfs = length-map kerfs (λ k. max_side - k)
 
 module _ (format : ℕ) (has_kerf : Bool) (container kerfs : List ℕ) (is_format : (format == 0) ≡ false)
     (same_count : length kerfs ≡ length container)
     (some : is_none container ≡ false) where
   box_line_is : (boxes : List PlainBox) (words : List (List ℕ)) (item : PlainBox) (times : ℕ)
-      → length boxes + times ≤ most_boxes → 1 ≤ times
+      → length boxes + times ≤ max_boxes → 1 ≤ times
       → IsBoxLine format kerfs words item times
       → by_words (with_boxes format has_kerf container kerfs boxes) words
       ≡ Ok (with_boxes format has_kerf container kerfs (boxes ++ replicate times item))
@@ -47,15 +47,15 @@ module _ (format : ℕ) (has_kerf : Bool) (container kerfs : List ℕ) (is_forma
       let counts : is_box_length format (length container) (length (is.numbers ++ is.ending)) ≡ true =
       counted (length (is.numbers ++ is.ending)) (length is.ending) n
       (ending_length format is.ending item.value times is.is_ending) in
-      let few : nat_le most_boxes (length boxes) ≡ false =
-      lt-leb most_boxes (length boxes) (omega (arith, room, one)) in
+      let few : nat_le max_boxes (length boxes) ≡ false =
+      lt-leb max_boxes (length boxes) (omega (arith, room, one)) in
       let s : numbers_of 1 (side_limits kerfs) (take (length kerfs) (is.numbers ++ is.ending)) ≡ Ok item.sides =
       ap (numbers_of 1 (side_limits kerfs)) (take_at is.numbers is.ending (length kerfs) d)
       ∙ are_numbers 1 (side_limits kerfs) is.numbers item.sides is.are_sides in
-      let e : ending_of format (most_boxes - length boxes) (drop (length kerfs) (is.numbers ++ is.ending))
+      let e : ending_of format (max_boxes - length boxes) (drop (length kerfs) (is.numbers ++ is.ending))
       ≡ Ok (record { value = item.value; times = times }) =
-      ap (ending_of format (most_boxes - length boxes)) (drop_at is.numbers is.ending (length kerfs) d)
-      ∙ is_ending format (most_boxes - length boxes) is.ending item.value times (omega (arith, room)) is.is_ending in
+      ap (ending_of format (max_boxes - length boxes)) (drop_at is.numbers is.ending (length kerfs) d)
+      ∙ is_ending format (max_boxes - length boxes) is.ending item.value times (omega (arith, room)) is.is_ending in
       let added : box_line (with_boxes format has_kerf container kerfs boxes) (is.numbers ++ is.ending)
       ≡ Ok (with_boxes format has_kerf container kerfs (boxes ++ replicate times item)) =
       rw (is_format, some, few, counts, s, e) refl in
@@ -78,7 +78,7 @@ unfolding same_bytes
 kerf_line_is container kerfs words some is =
     let c = numbers_count 0 (kerf_limits container) is.numbers kerfs is.are_kerfs in
     let n : length is.numbers ≡ length container =
-    c.words_count ∙ length-map container (λ side. min 100000 (most_side - side)) in
+    c.words_count ∙ length-map container (λ side. min 100000 (max_side - side)) in
     let added : kerf_line (with_boxes 2 false container (replicate (length container) 0) []) is.numbers
     ≡ Ok (with_boxes 2 true container kerfs []) =
     rw (
@@ -94,7 +94,7 @@ container_line_is : (format : ℕ) (words : List (List ℕ)) (sides : List ℕ) 
 unfolding same_bytes
 container_line_is format words sides is_format is =
     let c = numbers_count 1 (container_limits (length sides)) is.numbers sides is.are_sides in
-    let n : length is.numbers ≡ length sides = c.words_count ∙ length-replicate (length sides) most_side in
+    let n : length is.numbers ≡ length sides = c.words_count ∙ length-replicate (length sides) max_side in
     let added : container_line (formatted format) is.numbers
     ≡ Ok (with_boxes format false sides (replicate (length sides) 0) []) =
     rw (
@@ -146,7 +146,7 @@ module _ (format : ℕ) (has_kerf : Bool) (container kerfs : List ℕ) (is_forma
   behind boxes = with_boxes format has_kerf container kerfs boxes
 
   boxes_read : (lines : List (List ℕ)) (before boxes : List PlainBox) (n : ℕ) → AreClean lines
-      → AreBoxLines format kerfs (filled_lines lines) boxes → length before + length boxes ≤ most_boxes
+      → AreBoxLines format kerfs (filled_lines lines) boxes → length before + length boxes ≤ max_boxes
       → 1 ≤ length before + length boxes
       → read_lines (behind before) n lines
       ≡ Ok (record { container = container; kerfs = kerfs; boxes = before ++ boxes })
@@ -159,7 +159,7 @@ module _ (format : ℕ) (has_kerf : Bool) (container kerfs : List ℕ) (is_forma
     where
       by_words_of : (words : List (List ℕ)) → words_of (content line) ≡ words
           → ((before boxes : List PlainBox) (n : ℕ) → AreClean lines
-          → AreBoxLines format kerfs (filled_lines lines) boxes → length before + length boxes ≤ most_boxes
+          → AreBoxLines format kerfs (filled_lines lines) boxes → length before + length boxes ≤ max_boxes
           → 1 ≤ length before + length boxes
           → read_lines (behind before) n lines
           ≡ Ok (record { container = container; kerfs = kerfs; boxes = before ++ boxes }))
@@ -231,7 +231,7 @@ kerf_read format instance is_format some (line ∷ lines) n (first ∷ []) boxes
         let h = heads are in
         let k = numbers_count 0 (kerf_limits instance.container) is.0.1.numbers instance.kerfs is.0.1.are_kerfs in
         let count : length instance.kerfs ≡ length instance.container =
-        k.count ∙ length-map instance.container (λ side. min 100000 (most_side - side)) in
+        k.count ∙ length-map instance.container (λ side. min 100000 (max_side - side)) in
         let adds : by_words (with_boxes format false instance.container (replicate (length instance.container) 0) [])
         (word ∷ words) ≡ Ok (with_boxes format true instance.container instance.kerfs []) =
         subst (λ (f : ℕ). by_words (with_boxes f false instance.container (replicate (length instance.container) 0) [])

@@ -7,7 +7,7 @@ use Rattle.std.proofs.lemmas.Bool.{not-false, eqb-true, ne_eqb, or_right, true�
 use Rattle.std.proofs.lemmas.List.{length-take-le, length-drop, length-map, length-append, length-replicate}
 use Rattle.std.proofs.lemmas.List.{take-append-drop}
 use Rattle.packing_terms.specs.Packing.{PlainBox, PlainInstance}
-use Rattle.packing_terms.specs.Limits.{most_boxes, most_side, IsBoxCount}
+use Rattle.packing_terms.specs.Limits.{max_boxes, max_side, IsBoxCount}
 use Rattle.text_terms.specs.Lines.{text_lines, content, words_of}
 use Rattle.packing_terms.specs.Results.{◌>>=◌}
 use Rattle.text_terms.specs.Texts.{Parts, no_parts, by_words, format_line, container_line, kerf_line, box_line}
@@ -40,22 +40,22 @@ module _ (format : ℕ) (has_kerf : Bool) (container kerfs : List ℕ) (is_forma
   box_told : (before : List PlainBox) (words : List (List ℕ)) (more : Parts) → box_line (behind before) words ≡ Ok more
       → BoxTold before words more
   box_told before words more e =
-      let room : ℕ = most_boxes - length before in
-      let r = boxes_of_words format (most_boxes - length before) kerfs words
+      let room : ℕ = max_boxes - length before in
+      let r = boxes_of_words format (max_boxes - length before) kerfs words
       >>= λ boxes. Ok (behind (before ++ boxes)) in
-      let a = refuse_ok ((format == 0) || is_none container) 5 (refuse (nat_le most_boxes (length before)) 9
+      let a = refuse_ok ((format == 0) || is_none container) 5 (refuse (nat_le max_boxes (length before)) 9
       (refuse (not (is_box_length format (length container) (length words))) 2 r)) more e in
-      let b = refuse_ok (nat_le most_boxes (length before)) 9
+      let b = refuse_ok (nat_le max_boxes (length before)) 9
       (refuse (not (is_box_length format (length container) (length words))) 2 r) more a.1 in
       let c = refuse_ok (not (is_box_length format (length container) (length words))) 2 r more b.1 in
-      let s = bind_ok (boxes_of_words format (most_boxes - length before) kerfs words)
+      let s = bind_ok (boxes_of_words format (max_boxes - length before) kerfs words)
       (λ boxes. Ok (behind (before ++ boxes))) more c.1 in
       let n = box_length format (length container) (length words) c.0 in
       let enough : length kerfs ≤ length words = (let l = n.least in omega (arith, l, same_count)) in
       let sides = bind_ok (numbers_of 1 (side_limits kerfs) (take (length kerfs) words))
-      (λ sides. ending_of format (most_boxes - length before) (drop (length kerfs) words) >>= λ ending.
+      (λ sides. ending_of format (max_boxes - length before) (drop (length kerfs) words) >>= λ ending.
       Ok (replicate ending.times (record { sides = sides; value = ending.value }))) s.0 s.1 in
-      let ending = bind_ok (ending_of format (most_boxes - length before) (drop (length kerfs) words))
+      let ending = bind_ok (ending_of format (max_boxes - length before) (drop (length kerfs) words))
       (λ ending. Ok (replicate ending.times (record { sides = sides.0; value = ending.value }))) s.0 sides.2 in
       let items : replicate ending.0.times (record { sides = sides.0; value = ending.0.value }) ≡ s.0 = cc (ending.2) in
       let same : behind (before ++ s.0) ≡ more = cc (s.2) in
@@ -69,7 +69,7 @@ module _ (format : ℕ) (has_kerf : Bool) (container kerfs : List ℕ) (is_forma
           ending = drop (length kerfs) words;
           are = ap (λ ws. codes "box" ∷ ws) (sym (take-append-drop (length kerfs) words));
           are_sides = numbers_are 1 (side_limits kerfs) (take (length kerfs) words) sides.0 front sides.1;
-          is_ending = ending_is format (most_boxes - length before) (drop (length kerfs) words) ending.0
+          is_ending = ending_is format (max_boxes - length before) (drop (length kerfs) words) ending.0
               (left words n.more) ending.1;
         };
         adds = sym same ∙ ap (λ bs. behind (before ++ bs)) (sym items);
@@ -189,7 +189,7 @@ module _ (format : ℕ) (container : List ℕ) (is_format : (format == 0) ≡ fa
       let n : length words ≡ length container =
       eqb-true (length words) (length container) (not-false (length words == length container) b.0) in
       let m : length (kerf_limits container) ≡ length container =
-      length-map container (λ side. min 100000 (most_side - side)) in
+      length-map container (λ side. min 100000 (max_side - side)) in
       let are = numbers_are 0 (kerf_limits container) words s.0 (n ∙ sym m) s.1 in
       let c = numbers_count 0 (kerf_limits container) words s.0 are in
       let same : with_boxes format true container s.0 [] ≡ more = cc (s.2) in
@@ -284,7 +284,7 @@ container_told format words more e =
     let s = bind_ok (numbers_of 1 (container_limits (length words)) words)
     (λ sides. Ok (with_boxes format false sides (replicate (length sides) 0) [])) more c.1 in
     let n = at_most_four (length words) c.0 in
-    let m : length (container_limits (length words)) ≡ length words = length-replicate (length words) most_side in
+    let m : length (container_limits (length words)) ≡ length words = length-replicate (length words) max_side in
     let are = numbers_are 1 (container_limits (length words)) words s.0 (sym m) s.1 in
     let count : length s.0 ≡ length words =
     (numbers_count 1 (container_limits (length words)) words s.0 are).count ∙ m in

@@ -29,7 +29,7 @@ use Rattle.tree_terms.specs.InnerTree.{is_settled, is_unsettled, is_apart_somewh
 use Rattle.tree_terms.specs.InnerTree.{node_tree, node_of, has_order_mask, has_apart_mask, chosen_split, split_tree}
 use Rattle.tree_terms.specs.InnerTree.{tree_below}
 use Rattle.tree_terms.specs.ClassTree.{box_sides, first_too_large_box, exceeding_where, scales_after, root_of}
-use Rattle.tree_terms.specs.ClassTree.{closes_in_conflict, class_tree}
+use Rattle.tree_terms.specs.ClassTree.{has_closure_conflict, class_tree}
 use Rattle.tree_terms.specs.Search.{IsSearch}
 use Rattle.packing_terms.proofs.RankLemmas.{ranked_rise, pair_ranked}
 use Rattle.tree_terms.proofs.SettledPlaces.{settled_pack}
@@ -285,14 +285,14 @@ module _ (instance : PlainInstance) (sides : HasPositiveSides instance) (some_di
   pub class_search : (es : List Exclusion) → AreAtEdges instance es → (scales : Bool)
       → IsSearch instance es (class_tree instance es scales)
   class_search es placed scales =
-      go (first_too_large_box instance) refl (closes_in_conflict instance es) refl
+      go (first_too_large_box instance) refl (has_closure_conflict instance es) refl
     where
       tested : (o : Option (List ScaleFn)) → SidesFit instance → exceeding_where instance 1 scales None ≡ o
           → IsSearch instance es (root_of None false o (tree_below instance es))
       tested (Some fs) fit e = by_scales (found_exceeds 1 scales fs fit e)
       tested None fit e = inner_search instance sides some_dim fit es placed
 
-      go : (l : Option (ℕ × ℕ)) → first_too_large_box instance ≡ l → (b : Bool) → closes_in_conflict instance es ≡ b
+      go : (l : Option (ℕ × ℕ)) → first_too_large_box instance ≡ l → (b : Bool) → has_closure_conflict instance es ≡ b
           → IsSearch instance es (root_of l b (scales_after instance scales b) (tree_below instance es))
       go (Some p) e b f =
           let h = large_found instance p e in

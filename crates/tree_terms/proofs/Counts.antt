@@ -30,7 +30,7 @@ use Rattle.tree_terms.specs.Trees.{SearchTree, Verdict, Yes, No, no_tokens, join
 use Rattle.packing_terms.specs.Rank.{ranked_pairs}
 use Rattle.tree_terms.specs.InnerTree.{is_settled, is_unsettled, is_apart_somewhere, exclusion_at_pair, has_order_mask}
 use Rattle.tree_terms.specs.InnerTree.{has_apart_mask, chosen_split, split_tree, node_of, node_tree, tree_below}
-use Rattle.tree_terms.specs.ClassTree.{first_too_large_box, closes_in_conflict, scales_after, root_of, class_tree}
+use Rattle.tree_terms.specs.ClassTree.{first_too_large_box, has_closure_conflict, scales_after, root_of, class_tree}
 use Rattle.packing_terms.proofs.RankLemmas.{ranked_rise}
 use Rattle.tree_terms.proofs.Splits.{order_there, apart_there}
 use Rattle.tree_terms.proofs.Joins.{count_join_no}
@@ -388,8 +388,8 @@ module _ (instance : PlainInstance) where
       → count_of (outcome (class_tree instance es scales)) < 3 ^
       (dims instance * box_count instance * (box_count instance - 1) / 2)
   class_count some_dim es scales =
-      go (first_too_large_box instance) (closes_in_conflict instance es)
-      (scales_after instance scales (closes_in_conflict instance es))
+      go (first_too_large_box instance) (has_closure_conflict instance es)
+      (scales_after instance scales (has_closure_conflict instance es))
     where
       some : 1 ≤ 3 ^ (dims instance * box_count instance * (box_count instance - 1) / 2)
       some = le_trans (measure_some es) (measure_most es)

@@ -3,9 +3,9 @@ use Rattle.std.proofs.Common.{◌≡◌, ℕ, suc, ◌<◌, ◌≤◌, ◌⊎◌
 use Rattle.std.proofs.Common.{false, List, [], ◌∷◌, ◌++◌, ltb, if◌then◌else◌, Option, Some, None, IsSome, append_assoc}
 use Rattle.std.proofs.lemmas.Bool.{true≢false, cases_Bool, ltb-true, lt-ltb, cases_lt}
 use Rattle.packing_terms.specs.Tokens.{PlainToken}
-use Rattle.tree_terms.specs.Trees.{SearchTree, Settled, Refuted, Split, join_from, outcome, count_of, told, Past}
+use Rattle.tree_terms.specs.Trees.{SearchTree, Settled, Refuted, Split, join_from, outcome, count_of, under_budget, Past}
 use Rattle.tree_terms.specs.Trees.{child_at, node_at}
-use Rattle.tree_terms.specs.Paths.{most_budget, own_of, PlainNode, Leaf, Splits, node_told, IsReachable, LeadsTo}
+use Rattle.tree_terms.specs.Paths.{max_budget, own_of, PlainNode, Leaf, Splits, node_view, IsReachable, LeadsTo}
 use Rattle.tree_terms.proofs.Joins.{count_join_no}
 use Rattle.tree_terms.proofs.Told.{told_past}
 use Rattle.tree_terms.proofs.PathNodes.{none_there, some_node}
@@ -26,8 +26,8 @@ own_least (Split token own n child) = let e = count_join_no (token ∷ []) own (
     omega (arith, e)
 
 -- a node whose own count is past every budget is past under each
-pub past_own : (tree : SearchTree) (budget : ℕ) → budget ≤ most_budget → most_budget < own_of tree
-    → told budget (outcome tree) ≡ Past
+pub past_own : (tree : SearchTree) (budget : ℕ) → budget ≤ max_budget → max_budget < own_of tree
+    → under_budget budget (outcome tree) ≡ Past
 past_own tree budget l m = let h = own_least tree in told_past budget (outcome tree) (omega (arith, l, m, h))
 
 -- what is told of a split
@@ -50,18 +50,18 @@ is_split (Splits token own n) = true
 leaf_is_none : {P : Type 0} (token : PlainToken) (own n : ℕ) → Leaf ≡ Splits token own n → P
 leaf_is_none token own n e = absurd (true≢false (sym (ap is_split e)))
 
-pub told_split : (tree : SearchTree) (token : PlainToken) (own n : ℕ) → node_told tree ≡ Splits token own n
-    ↔ ((child : ℕ → SearchTree) × (tree ≡ Split token own n child) × (own ≤ most_budget))
+pub told_split : (tree : SearchTree) (token : PlainToken) (own n : ℕ) → node_view tree ≡ Splits token own n
+    ↔ ((child : ℕ → SearchTree) × (tree ≡ Split token own n child) × (own ≤ max_budget))
 told_split tree token own n = (there tree, λ h. back h.0 h.1 h.2)
   where
-    there : (t : SearchTree) → node_told t ≡ Splits token own n → (child : ℕ → SearchTree)
-        × (t ≡ Split token own n child) × (own ≤ most_budget)
+    there : (t : SearchTree) → node_view t ≡ Splits token own n → (child : ℕ → SearchTree)
+        × (t ≡ Split token own n child) × (own ≤ max_budget)
     there (Settled ns o) e = leaf_is_none token own n e
     there (Refuted ts o) e = leaf_is_none token own n e
-    there (Split t o m child) e = go (ltb most_budget o) refl e
+    there (Split t o m child) e = go (ltb max_budget o) refl e
       where
-        go : (b : Bool) → ltb most_budget o ≡ b → (if b then Leaf else Splits t o m) ≡ Splits token own n
-            → (c : ℕ → SearchTree) × (Split t o m child ≡ Split token own n c) × (own ≤ most_budget)
+        go : (b : Bool) → ltb max_budget o ≡ b → (if b then Leaf else Splits t o m) ≡ Splits token own n
+            → (c : ℕ → SearchTree) × (Split t o m child ≡ Split token own n c) × (own ≤ max_budget)
         go true f h = leaf_is_none token own n h
         go false f h =
             let et = ap (token_told token) h in
@@ -70,20 +70,20 @@ told_split tree token own n = (there tree, λ h. back h.0 h.1 h.2)
               child,
               ap (λ x. Split x o m child) et
                   ∙ (ap (λ x. Split token x m child) eo ∙ ap (λ x. Split token own x child) en),
-              small (cases_lt most_budget o) eo,
+              small (cases_lt max_budget o) eo,
             )
           where
-            small : (most_budget < o) ⊎ (o ≤ most_budget) → o ≡ own → own ≤ most_budget
-            small (inl l) q = absurd (true≢false (sym (lt-ltb most_budget o l) ∙ f))
+            small : (max_budget < o) ⊎ (o ≤ max_budget) → o ≡ own → own ≤ max_budget
+            small (inl l) q = absurd (true≢false (sym (lt-ltb max_budget o l) ∙ f))
             small (inr l) q = omega (arith, l, q)
 
-    back : (child : ℕ → SearchTree) → tree ≡ Split token own n child → own ≤ most_budget
-        → node_told tree ≡ Splits token own n
-    back child e l = ap node_told e ∙ go (cases_Bool (ltb most_budget own))
+    back : (child : ℕ → SearchTree) → tree ≡ Split token own n child → own ≤ max_budget
+        → node_view tree ≡ Splits token own n
+    back child e l = ap node_view e ∙ go (cases_Bool (ltb max_budget own))
       where
-        go : (ltb most_budget own ≡ true) ⊎ (ltb most_budget own ≡ false)
-            → (if ltb most_budget own then Leaf else Splits token own n) ≡ Splits token own n
-        go (inl k) = absurd (let m = ltb-true most_budget own k in omega (arith, l, m))
+        go : (ltb max_budget own ≡ true) ⊎ (ltb max_budget own ≡ false)
+            → (if ltb max_budget own then Leaf else Splits token own n) ≡ Splits token own n
+        go (inl k) = absurd (let m = ltb-true max_budget own k in omega (arith, l, m))
         go (inr k) = rw k refl
 
 pub root_reached : (tree : SearchTree) → IsReachable tree []
@@ -143,7 +143,7 @@ module _ (tree : SearchTree) (path : List ℕ) (k : ℕ) where
 
   -- what leads on is a split that is told
   leads : (node : SearchTree) → node_at (Some tree) path ≡ Some node → IsSome (child_at node k)
-      → own_of node ≤ most_budget → LeadsTo tree path k
+      → own_of node ≤ max_budget → LeadsTo tree path k
   leads (Settled ns own) e h l = absurd (true≢false (sym h))
   leads (Refuted ts own) e h l = absurd (true≢false (sym h))
   leads (Split token own n child) e h l = record {
@@ -186,7 +186,7 @@ module _ (tree : SearchTree) (path : List ℕ) (k : ℕ) where
       back : IsReachable tree path → LeadsTo tree path k → IsReachable tree (path ++ k ∷ [])
       back r l = go ((told_split l.node l.token l.own l.children).0 l.told)
         where
-          go : (child : ℕ → SearchTree) × (l.node ≡ Split l.token l.own l.children child) × (l.own ≤ most_budget)
+          go : (child : ℕ → SearchTree) × (l.node ≡ Split l.token l.own l.children child) × (l.own ≤ max_budget)
               → IsReachable tree (path ++ k ∷ [])
           go (child, e, small) = record {
             there = subst (λ (o : Option SearchTree). IsSome o)
@@ -196,7 +196,7 @@ module _ (tree : SearchTree) (path : List ℕ) (k : ℕ) where
           }
             where
               pick : (front rest : List ℕ) (j : ℕ) (t : SearchTree) → node_at (Some tree) front ≡ Some t
-                  → (front ≡ path) ⊎ ((more : List ℕ) × (path ≡ front ++ j ∷ more)) → own_of t ≤ most_budget
+                  → (front ≡ path) ⊎ ((more : List ℕ) × (path ≡ front ++ j ∷ more)) → own_of t ≤ max_budget
               pick front rest j t g (inl f) =
                   let same = some_node t l.node (sym g ∙ (ap (λ p. node_at (Some tree) p) f ∙ l.there)) in
                   let own = ap own_of (same ∙ e) in

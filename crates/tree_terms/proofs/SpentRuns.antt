@@ -13,13 +13,13 @@ use Rattle.packing_terms.specs.Goals.{with_last_side, HasTooWideBox, HasTooLarge
 use Rattle.packing_terms.specs.ExcessLaw.{ExcessLaw}
 use Rattle.packing_terms.proofs.Internal.{internal_sides, some_dimension, some_box}
 use Rattle.packing_terms.proofs.TooLarge.{too_wide, too_large}
-use Rattle.tree_terms.specs.Trees.{Verdict, Yes, No, Decided, outcome, told, count_of}
+use Rattle.tree_terms.specs.Trees.{Verdict, Yes, No, Decided, outcome, under_budget, count_of}
 use Rattle.tree_terms.specs.ClassTree.{class_tree}
 use Rattle.tree_terms.specs.OuterTrees.{bin_tree, choice_tree}
-use Rattle.tree_terms.specs.Levels.{PlainLevel, SpentAt, PlainReached, run_levels, level_by, last_side, first_heights}
+use Rattle.tree_terms.specs.Levels.{PlainLevel, SpentAt, PlainReached, bisect_levels, level_by, last_side, first_heights}
 use Rattle.tree_terms.specs.Levels.{height_run, first_bins, bin_run, first_values, value_run, IsLevelBetween}
 use Rattle.tree_terms.specs.RunEnds.{HasSpentDecision, IsRisingEnd, IsFallingEnd, height_answer, bin_answer}
-use Rattle.tree_terms.specs.RunEnds.{value_answer, HasLargeTree}
+use Rattle.tree_terms.specs.RunEnds.{value_answer, HasLevelPastBudget}
 use Rattle.tree_terms.proofs.Told.{told_past, told_decided}
 use Rattle.tree_terms.proofs.Counts.{class_count, times_le}
 use Rattle.tree_terms.proofs.OuterCounts.{bin_count}
@@ -33,10 +33,10 @@ never_spent : (v : Verdict) → level_by (Decided v) ≡ SpentAt → ⊥
 never_spent (Yes ns c) k = cc
 never_spent (No ts c) k = cc
 
-pub spent_level : (budget : ℕ) (v : Verdict) → level_by (told budget v) ≡ SpentAt ↔ (budget < count_of v)
+pub spent_level : (budget : ℕ) (v : Verdict) → level_by (under_budget budget v) ≡ SpentAt ↔ (budget < count_of v)
 spent_level budget v = (there, λ l. ap level_by (told_past budget v l))
   where
-    there : level_by (told budget v) ≡ SpentAt → budget < count_of v
+    there : level_by (under_budget budget v) ≡ SpentAt → budget < count_of v
     there e = go (cases_lt budget (count_of v))
       where
         go : (budget < count_of v) ⊎ (count_of v ≤ budget) → budget < count_of v
@@ -45,31 +45,31 @@ spent_level budget v = (there, λ l. ap level_by (told_past budget v l))
 
 module _ (tree : ℕ → Verdict) (budget : ℕ) (first : PlainReached) (fresh : first.spent ≡ false) where
   abbrev answers : ℕ → PlainLevel
-  answers level = level_by (told budget (tree level))
+  answers level = level_by (under_budget budget (tree level))
 
-  spent_large : IsTrue (run_levels answers first).spent ↔ HasLargeTree answers first budget
+  spent_large : IsTrue (bisect_levels answers first).spent ↔ HasLevelPastBudget answers first budget
       (λ level. count_of (tree level))
   spent_large = (
     λ h. there ((spent_exactly answers first fresh).0 h),
     λ h. (spent_exactly answers first fresh).1 (back h),
   )
     where
-      there : HasSpentDecision answers first → HasLargeTree answers first budget (λ level. count_of (tree level))
+      there : HasSpentDecision answers first → HasLevelPastBudget answers first budget (λ level. count_of (tree level))
       there (level, d, e) = (level, d, (spent_level budget (tree level)).0 e)
 
-      back : HasLargeTree answers first budget (λ level. count_of (tree level)) → HasSpentDecision answers first
+      back : HasLevelPastBudget answers first budget (λ level. count_of (tree level)) → HasSpentDecision answers first
       back (level, d, l) = (level, d, (spent_level budget (tree level)).1 l)
 
   -- a budget that bounds the counts of all levels between is enough
   enough : ((level : ℕ) → IsLevelBetween first level → count_of (tree level) ≤ budget)
-      → (run_levels answers first).spent ≡ false
-  enough bound = go (cases_Bool (run_levels answers first).spent)
+      → (bisect_levels answers first).spent ≡ false
+  enough bound = go (cases_Bool (bisect_levels answers first).spent)
     where
-      none : HasLargeTree answers first budget (λ level. count_of (tree level)) → ⊥
+      none : HasLevelPastBudget answers first budget (λ level. count_of (tree level)) → ⊥
       none (level, d, l) = let b = bound level (asked_between answers d) in omega (arith, b, l)
 
-      go : ((run_levels answers first).spent ≡ true) ⊎ ((run_levels answers first).spent ≡ false)
-          → (run_levels answers first).spent ≡ false
+      go : ((bisect_levels answers first).spent ≡ true) ⊎ ((bisect_levels answers first).spent ≡ false)
+          → (bisect_levels answers first).spent ≡ false
       go (inl k) = absurd (none (spent_large.0 k))
       go (inr k) = k
 
@@ -85,18 +85,18 @@ some_sum f (suc n) l h = let e : suc n - 1 ≡ n = omega arith in let g = ap f e
 
 module _ (instance : PlainInstance) (budget : ℕ) (scales : Bool) where
   pub height_spent : IsTrue (height_run instance budget scales).spent
-      ↔ HasLargeTree (height_answer instance budget scales) (first_heights instance) budget
+      ↔ HasLevelPastBudget (height_answer instance budget scales) (first_heights instance) budget
       (λ h. count_of (outcome (class_tree (with_last_side instance h) [] scales)))
   height_spent = spent_large (λ h. outcome (class_tree (with_last_side instance h) [] scales)) budget
       (first_heights instance) refl
 
   pub bins_spent : IsTrue (bin_run instance budget scales).spent
-      ↔ HasLargeTree (bin_answer instance budget scales) (first_bins instance scales) budget
+      ↔ HasLevelPastBudget (bin_answer instance budget scales) (first_bins instance scales) budget
       (λ k. count_of (outcome (bin_tree instance k scales)))
   bins_spent = spent_large (λ k. outcome (bin_tree instance k scales)) budget (first_bins instance scales) refl
 
   pub value_spent : IsTrue (value_run instance budget scales).spent
-      ↔ HasLargeTree (value_answer instance budget scales) (first_values instance) budget
+      ↔ HasLevelPastBudget (value_answer instance budget scales) (first_values instance) budget
       (λ t. count_of (outcome (choice_tree instance t scales)))
   value_spent = spent_large (λ t. outcome (choice_tree instance t scales)) budget (first_values instance) refl
 

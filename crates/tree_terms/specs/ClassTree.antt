@@ -54,12 +54,12 @@ root_of None false (Some fs) tree = Refuted (Scales fs ∷ []) 0
 root_of None false None tree = tree
 
 -- whether the closure of the exclusions of a list has a conflict
-abbrev pub closes_in_conflict : PlainInstance → List Exclusion → Bool
-closes_in_conflict instance es = has_empty_mask (excludes (closure instance es)) (dims instance) (box_count instance)
+abbrev pub has_closure_conflict : PlainInstance → List Exclusion → Bool
+has_closure_conflict instance es = has_empty_mask (excludes (closure instance es)) (dims instance) (box_count instance)
 
 -- the tree of an instance whose root holds the given exclusions, with or without scales
 abbrev pub class_tree : PlainInstance → List Exclusion → Bool → SearchTree
 class_tree instance es scales =
-    root_of (first_too_large_box instance) (closes_in_conflict instance es)
-    (scales_after instance scales (closes_in_conflict instance es))
+    root_of (first_too_large_box instance) (has_closure_conflict instance es)
+    (scales_after instance scales (has_closure_conflict instance es))
     (tree_below instance es)

@@ -45,8 +45,8 @@ choice_at c (Refuted tokens own) (b ∷ path) = c
 choice_at c (Split token own n child) (b ∷ path) = choice_at (choice_below c token b) (child b) path
 
 -- the greatest budget
-abbrev pub most_budget : ℕ
-most_budget = 10000000
+abbrev pub max_budget : ℕ
+max_budget = 10000000
 
 -- a node's own count
 abbrev pub own_of : SearchTree → ℕ
@@ -62,17 +62,17 @@ pub data PlainNode : Type 0 where
 
 -- What is told of a node. A split whose own count is past every budget is told as a leaf: no budget
 -- reaches its children.
-abbrev pub node_told : SearchTree → PlainNode
-node_told (Settled numbers own) = Leaf
-node_told (Refuted tokens own) = Leaf
-node_told (Split token own n child) = if nat_lt most_budget own then Leaf else Splits token own n
+abbrev pub node_view : SearchTree → PlainNode
+node_view (Settled numbers own) = Leaf
+node_view (Refuted tokens own) = Leaf
+node_view (Split token own n child) = if nat_lt max_budget own then Leaf else Splits token own n
 
 -- the path names a node, and no node above that one has an own count past every budget
 pub record IsReachable (tree : SearchTree) (path : List ℕ) : Type 0 where
   pub there : IsSome (node_at (Some tree) path)
   pub within : (front rest : List ℕ) (k : ℕ) → path ≡ front ++ k ∷ rest → (node : SearchTree)
       → node_at (Some tree) front ≡ Some node
-      → own_of node ≤ most_budget
+      → own_of node ≤ max_budget
 
 -- the path leads on to this child: its node is told as a split with more children
 pub record LeadsTo (tree : SearchTree) (path : List ℕ) (k : ℕ) : Type 0 where
@@ -81,7 +81,7 @@ pub record LeadsTo (tree : SearchTree) (path : List ℕ) (k : ℕ) : Type 0 wher
   pub token : PlainToken
   pub own : ℕ
   pub children : ℕ
-  pub told : node_told node ≡ Splits token own children
+  pub told : node_view node ≡ Splits token own children
   pub child : suc k ≤ children
 
 -- the outcome of a node that may be there

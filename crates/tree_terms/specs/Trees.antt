@@ -50,8 +50,8 @@ pub data PlainOutcome : Type 0 where
   Past : PlainOutcome
 
 -- the verdict where its count is at most the budget, and past where it is greater
-abbrev pub told : ℕ → Verdict → PlainOutcome
-told budget v = if nat_lt budget (count_of v) then Past else Decided v
+abbrev pub under_budget : ℕ → Verdict → PlainOutcome
+under_budget budget v = if nat_lt budget (count_of v) then Past else Decided v
 
 -- the child of this index
 abbrev pub child_at : SearchTree → ℕ → Option SearchTree

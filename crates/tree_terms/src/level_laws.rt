@@ -14,8 +14,8 @@ ghost use Rattle.tree_terms.specs.Trees.{outcome, count_of};
 ghost use Rattle.tree_terms.specs.ClassTree.{class_tree, first_too_large_box, first_too_wide};
 ghost use Rattle.tree_terms.specs.OuterTrees.{bin_tree, choice_tree};
 ghost use Rattle.tree_terms.specs.OuterSearch.{AreBinNumbers, AreTakenNumbers};
-ghost use Rattle.tree_terms.specs.RunEnds.{IsLevelAsked, HasSpentDecision, IsFromRun, IsRisingEnd, IsFallingEnd, height_answer, bin_answer, value_answer, HasLargeTree};
-ghost use Rattle.tree_terms.specs.Levels.{PlainLevel, PlainReached, run_levels, is_run_over, moved, halfway, IsLevelBetween, HasBothCertificates, first_heights, first_bins, first_values, height_run, bin_run, value_run};
+ghost use Rattle.tree_terms.specs.RunEnds.{IsLevelDecided, HasSpentDecision, IsFromRun, IsRisingEnd, IsFallingEnd, height_answer, bin_answer, value_answer, HasLevelPastBudget};
+ghost use Rattle.tree_terms.specs.Levels.{PlainLevel, PlainReached, bisect_levels, is_run_over, moved, halfway, IsLevelBetween, HasBothCertificates, first_heights, first_bins, first_values, height_run, bin_run, value_run};
 
 /// A run of levels ends where the two levels are neighbours or a decision was spent, and else goes
 /// on from the answer at the level halfway. The order of the two levels stays, they stay within the
@@ -25,21 +25,21 @@ ghost use Rattle.tree_terms.specs.Levels.{PlainLevel, PlainReached, run_levels, 
 /// are reached are.
 pub fn run_of_levels()
     ensures over { (answer : ℕ → PlainLevel) (r : PlainReached) → is_run_over r ≡ true
-        → run_levels answer r ≡ r }
+        → bisect_levels answer r ≡ r }
     ensures next { (answer : ℕ → PlainLevel) (r : PlainReached) → is_run_over r ≡ false
-        → run_levels answer r ≡ run_levels answer (moved r (halfway r) (answer (halfway r))) }
+        → bisect_levels answer r ≡ bisect_levels answer (moved r (halfway r) (answer (halfway r))) }
     ensures ends { (answer : ℕ → PlainLevel) (r : PlainReached)
-        → is_run_over (run_levels answer r) ≡ true }
+        → is_run_over (bisect_levels answer r) ≡ true }
     ensures rising { (answer : ℕ → PlainLevel) (r : PlainReached) → r.refuted < r.placed
-        → IsRisingEnd r (run_levels answer r) }
+        → IsRisingEnd r (bisect_levels answer r) }
     ensures falling { (answer : ℕ → PlainLevel) (r : PlainReached) → r.placed < r.refuted
-        → IsFallingEnd r (run_levels answer r) }
+        → IsFallingEnd r (bisect_levels answer r) }
     ensures spent { (answer : ℕ → PlainLevel) (r : PlainReached) → r.spent ≡ false
-        → (IsTrue (run_levels answer r).spent ↔ HasSpentDecision answer r) }
+        → (IsTrue (bisect_levels answer r).spent ↔ HasSpentDecision answer r) }
     ensures asked { (answer : ℕ → PlainLevel) (r : PlainReached) (level : ℕ)
-        → IsLevelAsked answer r level → IsLevelBetween r level }
+        → IsLevelDecided answer r level → IsLevelBetween r level }
     ensures reached { (answer : ℕ → PlainLevel) (r : PlainReached)
-        → IsFromRun answer r (run_levels answer r) }
+        → IsFromRun answer r (bisect_levels answer r) }
 {}
 
 /// The first two levels of each run: the refuted one is refuted by its tokens, and the placed one
@@ -108,15 +108,15 @@ pub fn runs_find_the_optimum()
 pub fn runs_are_spent_exactly()
     ensures height { (instance : PlainInstance) (budget : ℕ) (scales : Bool)
         → IsTrue (height_run instance budget scales).spent
-        ↔ HasLargeTree (height_answer instance budget scales) (first_heights instance) budget
+        ↔ HasLevelPastBudget (height_answer instance budget scales) (first_heights instance) budget
         (λ h. count_of (outcome (class_tree (with_last_side instance h) [] scales))) }
     ensures bins { (instance : PlainInstance) (budget : ℕ) (scales : Bool)
         → IsTrue (bin_run instance budget scales).spent
-        ↔ HasLargeTree (bin_answer instance budget scales) (first_bins instance scales) budget
+        ↔ HasLevelPastBudget (bin_answer instance budget scales) (first_bins instance scales) budget
         (λ k. count_of (outcome (bin_tree instance k scales))) }
     ensures value { (instance : PlainInstance) (budget : ℕ) (scales : Bool)
         → IsTrue (value_run instance budget scales).spent
-        ↔ HasLargeTree (value_answer instance budget scales) (first_values instance) budget
+        ↔ HasLevelPastBudget (value_answer instance budget scales) (first_values instance) budget
         (λ t. count_of (outcome (choice_tree instance t scales))) }
     ensures height_end { (instance : PlainInstance) (budget : ℕ) (scales : Bool)
         → IsInternalInstance instance

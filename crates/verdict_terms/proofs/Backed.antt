@@ -24,7 +24,7 @@ use Rattle.verdict_terms.specs.Reasons.{range}
 use Rattle.verdict_terms.specs.declared.reason.Reason.TheVariants.{TooLittle}
 use Rattle.document_terms.specs.TokenLines.{token_of}
 use Rattle.verdict_terms.specs.Trees.{Refuted, ToFit, ToFitIn}
-use Rattle.verdict_terms.specs.Stages.{Stage, groups_reason, start_exclusions, claimed, placed, to_refute, is_word}
+use Rattle.verdict_terms.specs.Stages.{Stage, groups_reason, start_exclusions, claimed, placed, refutation_goal, is_word}
 use Rattle.verdict_terms.specs.Stages.{tree_token, exceeding_token, exceeding_line, value_stage}
 use Rattle.verdict_terms.specs.Stages.Stage.{Placing, Sharing, Taking, Exceeding, Ending}
 use Rattle.verdict_terms.specs.Form.{AreNumberedLines, ArePlaced, AreShared, AreTaken, AreRefuting, IsExceedingLine}
@@ -94,7 +94,7 @@ numbered_length key most d (words ∷ lines) (n ∷ ns) places (xs, more, e, lin
 shares_backed : (instance : PlainInstance) (claim told : Claim) (k : ℕ) (lines : List (List (List ℕ)))
     → read_words (Sharing instance claim k [] []) lines ≡ Ok told
     → (front : List (List (List ℕ))) × (back : List (List (List ℕ))) × (lines ≡ front ++ back)
-    × AreShared instance k front × (read_words (placed Answer claim (to_refute Answer instance claim)) back ≡ Ok told)
+    × AreShared instance k front × (read_words (placed Answer claim (refutation_goal Answer instance claim)) back ≡ Ok told)
 shares_backed instance claim told k lines e =
     let t = shares_told instance claim told k [] [] lines e in (
       t.front,
@@ -222,7 +222,7 @@ value_backed heading instance claim told reached refuted passing lines e =
 pub backed_told : (heading : Heading) (instance : PlainInstance) (claim told : Claim) (lines : List (List (List ℕ)))
     → read_words (claimed heading instance claim) lines ≡ Ok told → BackedTold heading instance claim told lines
 backed_told heading instance Fitting told lines e =
-    let p = places_backed heading instance Fitting told (to_refute heading instance Fitting) lines e in
+    let p = places_backed heading instance Fitting told (refutation_goal heading instance Fitting) lines e in
     let d = end_told Fitting told None p.1 p.4 in
     record { backing = p.0; are = p.2 ∙ ap (λ ls. p.0 ++ ls) d.are; backs = p.3; same = d.same }
 backed_told heading instance NotFitting told lines e =
@@ -230,13 +230,13 @@ backed_told heading instance NotFitting told lines e =
     record { backing = t.body; are = t.are; backs = t.refuting; same = t.same }
 backed_told heading instance (LeastHeight h) told lines e =
     let p = places_backed heading (with_last_side instance h) (LeastHeight h) told
-    (to_refute heading instance (LeastHeight h)) lines e in
+    (refutation_goal heading instance (LeastHeight h)) lines e in
     let q = proved (ArePlaced (with_last_side instance h)) (RefuteHeight heading instance (pred h)) (LeastHeight h) told
     lines p.0 p.1 p.2 p.3 (height_told heading instance (LeastHeight h) told (pred h) p.1 p.4) in
     record { backing = q.0; are = q.1; backs = q.2; same = q.3 }
 backed_told heading instance (HeightBetween a b) told lines e =
     let p = places_backed heading (with_last_side instance b) (HeightBetween a b) told
-    (to_refute heading instance (HeightBetween a b)) lines e in
+    (refutation_goal heading instance (HeightBetween a b)) lines e in
     let q = proved (ArePlaced (with_last_side instance b)) (RefuteHeight heading instance a) (HeightBetween a b) told
     lines p.0 p.1 p.2 p.3 (height_told heading instance (HeightBetween a b) told a p.1 p.4) in
     record { backing = q.0; are = q.1; backs = q.2; same = q.3 }

@@ -19,13 +19,13 @@ use Rattle.document_terms.specs.declared.claim.Claim.TheVariants.{GreatestValue,
 use Rattle.verdict_terms.specs.declared.heading.Heading.{Heading}
 use Rattle.verdict_terms.specs.declared.heading.Heading.TheVariants.{Answer}
 use Rattle.verdict_terms.specs.Reasons.{form, range}
-use Rattle.packing_terms.specs.Limits.{most_height}
-use Rattle.document_terms.specs.Claims.{most_worth}
+use Rattle.packing_terms.specs.Limits.{max_height}
+use Rattle.document_terms.specs.Claims.{max_worth}
 use Rattle.verdict_terms.specs.Numbers.{require, wanted}
 use Rattle.document_terms.specs.TokenLines.{token_of}
 use Rattle.verdict_terms.specs.Trees.{Refuted, ToFit, ToFitIn}
 use Rattle.verdict_terms.specs.Results.{one_claim, two_claim, claim_of}
-use Rattle.verdict_terms.specs.Stages.{start_exclusions, claimed, placed, to_refute, is_word, tree_token}
+use Rattle.verdict_terms.specs.Stages.{start_exclusions, claimed, placed, refutation_goal, is_word, tree_token}
 use Rattle.verdict_terms.specs.Stages.{exceeding_token, exceeding_line, value_stage}
 use Rattle.verdict_terms.specs.Stages.Stage.{Placing, Sharing, Taking, Exceeding, Ending}
 use Rattle.verdict_terms.specs.Form.{IsResult, ArePlaced, AreShared, AreTaken, IsExceedingLine, BacksUnder}
@@ -67,10 +67,10 @@ unfolding claim_of same_bytes
 result_given instance Fitting words is = ap (claim_of (job_of Fitting) instance) is
 result_given instance NotFitting words is = ap (claim_of (job_of NotFitting) instance) is
 result_given instance (LeastHeight h) words is =
-    ap (claim_of (job_of (LeastHeight h)) instance) is.are ∙ one_given (codes "least") 1 most_height h LeastHeight
+    ap (claim_of (job_of (LeastHeight h)) instance) is.are ∙ one_given (codes "least") 1 max_height h LeastHeight
     is.number is.is_number
 result_given instance (HeightBetween a b) words is =
-    ap (claim_of (job_of (HeightBetween a b)) instance) is.are ∙ two_given most_height a b HeightBetween is.first
+    ap (claim_of (job_of (HeightBetween a b)) instance) is.are ∙ two_given max_height a b HeightBetween is.first
     is.second is.is_first is.is_second is.rising is.most
 result_given instance NoHeight words is = ap (claim_of (job_of NoHeight) instance) is
 result_given instance (LeastBins k) words is =
@@ -81,10 +81,10 @@ result_given instance (BinsBetween a b) words is =
     is.second is.is_first is.is_second is.rising is.most
 result_given instance NoBins words is = ap (claim_of (job_of NoBins) instance) is
 result_given instance (GreatestValue v) words is =
-    ap (claim_of (job_of (GreatestValue v)) instance) is.are ∙ one_given (codes "greatest") 0 most_worth v GreatestValue
+    ap (claim_of (job_of (GreatestValue v)) instance) is.are ∙ one_given (codes "greatest") 0 max_worth v GreatestValue
     is.number is.is_number
 result_given instance (ValueBetween a b) words is =
-    ap (claim_of (job_of (ValueBetween a b)) instance) is.are ∙ two_given most_worth a b ValueBetween is.first is.second
+    ap (claim_of (job_of (ValueBetween a b)) instance) is.are ∙ two_given max_worth a b ValueBetween is.first is.second
     is.is_first is.is_second is.rising is.most
 
 -- ---- what stands behind it
@@ -113,7 +113,7 @@ module _ (instance : PlainInstance) (some_dims : 1 ≤ dims instance) (some_boxe
 
   shared_given : (claim : Claim) (k : ℕ) (front back : List (List (List ℕ))) → AreShared instance k front
       → read_words (Sharing instance claim k [] []) (front ++ back)
-      ≡ read_words (placed Answer claim (to_refute Answer instance claim)) back
+      ≡ read_words (placed Answer claim (refutation_goal Answer instance claim)) back
   shared_given claim k front back p =
       shares_given instance claim k [] [] p.bins p.places front back p.are_lines p.packing.count
       (omega (arith, some_boxes)) (no_bins_reason instance k p.bins p.places p.packing)
@@ -150,7 +150,7 @@ module _ (instance : PlainInstance) (some_dims : 1 ≤ dims instance) (some_boxe
       → BacksUnder heading instance claim lines
       → read_words (claimed heading instance claim) (lines ++ (codes "end" ∷ []) ∷ []) ≡ Ok claim
   backed_given heading Fitting lines b =
-      placed_given heading instance Fitting (to_refute heading instance Fitting) lines ((codes "end" ∷ []) ∷ []) refl refl b
+      placed_given heading instance Fitting (refutation_goal heading instance Fitting) lines ((codes "end" ∷ []) ∷ []) refl refl b
       ∙ end_given Fitting None
   backed_given heading NotFitting lines b =
       refuting_given NotFitting (ToFit instance (start_exclusions heading instance)) lines b

@@ -18,7 +18,7 @@ use Rattle.verdict_terms.specs.declared.heading.Heading.TheVariants.{Answer, Red
 use Rattle.verdict_terms.specs.declared.reason.Reason.{Reason}
 use Rattle.verdict_terms.specs.Trees.{ToReach}
 use Rattle.verdict_terms.specs.Stages.{Stage, is_word, coded, bounding_end, bounding_token, words_line, value_stage}
-use Rattle.verdict_terms.specs.Stages.{to_refute, value_refuted}
+use Rattle.verdict_terms.specs.Stages.{refutation_goal, value_refuted}
 use Rattle.verdict_terms.specs.Stages.Stage.{Bounding, Ended}
 use Rattle.verdict_terms.specs.Form.{AreBoundedLines, AreRefuting, RefuteValue}
 use Rattle.verdict_terms.proofs.Passed.{is_word_ok, ok_is}
@@ -75,14 +75,14 @@ module _ (instance : PlainInstance) (claim : Claim) (value : ℕ) where
 
 -- the lines that refute a value are taken behind the `proof` of the claim that says so
 pub passing_given : (heading : Heading) (instance : PlainInstance) (claim : Claim) (value : ℕ)
-    → to_refute Answer instance claim ≡ ToReach instance value
-    → to_refute Reduced instance claim ≡ ToReach instance value → value_refuted claim ≡ value
+    → refutation_goal Answer instance claim ≡ ToReach instance value
+    → refutation_goal Reduced instance claim ≡ ToReach instance value → value_refuted claim ≡ value
     → (body : List (List (List ℕ))) → RefuteValue heading instance value body
     → read_words (value_stage heading instance claim) (body ++ (codes "end" ∷ []) ∷ []) ≡ Ok claim
 passing_given Answer instance claim value own other bound body r =
-    refuting_given claim (to_refute Answer instance claim) body (subst (λ x. AreRefuting x body) (sym own) r)
+    refuting_given claim (refutation_goal Answer instance claim) body (subst (λ x. AreRefuting x body) (sym own) r)
 passing_given Reduced instance claim value own other bound body r =
-    refuting_given claim (to_refute Reduced instance claim) body (subst (λ x. AreRefuting x body) (sym other) r)
+    refuting_given claim (refutation_goal Reduced instance claim) body (subst (λ x. AreRefuting x body) (sym other) r)
 passing_given Bounded instance claim value own other bound body r =
     bounding_given instance claim (value_refuted claim) (Outer no_choice ∷ []) r.tokens body r.are_lines
     ((bounded_refutes instance (value_refuted claim) r.tokens).1

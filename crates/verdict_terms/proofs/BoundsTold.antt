@@ -18,7 +18,7 @@ use Rattle.verdict_terms.specs.declared.heading.Heading.TheVariants.{Answer, Red
 use Rattle.verdict_terms.specs.declared.reason.Reason.{Reason}
 use Rattle.verdict_terms.specs.Trees.{ToReach}
 use Rattle.verdict_terms.specs.Stages.{Stage, is_word, coded, bounding_end, bounding_token, bounding_line, value_stage}
-use Rattle.verdict_terms.specs.Stages.{to_refute, value_refuted}
+use Rattle.verdict_terms.specs.Stages.{refutation_goal, value_refuted}
 use Rattle.verdict_terms.specs.Stages.Stage.{Bounding, Ended}
 use Rattle.verdict_terms.specs.Form.{AreBoundedLines, AreRefuting, RefuteValue}
 use Rattle.verdict_terms.proofs.Passed.{is_word_ok, ok_is}
@@ -109,19 +109,19 @@ pub record PassingTold (heading : Heading) (instance : PlainInstance) (claim tol
   pub same : claim ≡ told
 
 pub passing_told : (heading : Heading) (instance : PlainInstance) (claim told : Claim) (value : ℕ)
-    → to_refute Answer instance claim ≡ ToReach instance value
-    → to_refute Reduced instance claim ≡ ToReach instance value → value_refuted claim ≡ value
+    → refutation_goal Answer instance claim ≡ ToReach instance value
+    → refutation_goal Reduced instance claim ≡ ToReach instance value → value_refuted claim ≡ value
     → (lines : List (List (List ℕ))) → read_words (value_stage heading instance claim) lines ≡ Ok told
     → PassingTold heading instance claim told value lines
 passing_told Answer instance claim told value own other bound lines e =
-    let t = refuting_told claim told (to_refute Answer instance claim) lines e in record {
+    let t = refuting_told claim told (refutation_goal Answer instance claim) lines e in record {
       body = t.body;
       are = t.are;
       passing = subst (λ r. AreRefuting r t.body) own t.refuting;
       same = t.same;
     }
 passing_told Reduced instance claim told value own other bound lines e =
-    let t = refuting_told claim told (to_refute Reduced instance claim) lines e in record {
+    let t = refuting_told claim told (refutation_goal Reduced instance claim) lines e in record {
       body = t.body;
       are = t.are;
       passing = subst (λ r. AreRefuting r t.body) other t.refuting;

@@ -15,8 +15,8 @@ use Rattle.document_terms.specs.declared.claim.Claim.TheVariants.{LeastBins, Bin
 use Rattle.verdict_terms.specs.declared.heading.Heading.{Heading}
 use Rattle.verdict_terms.specs.declared.heading.Heading.TheVariants.{Answer, Reduced, Bounded}
 use Rattle.verdict_terms.specs.Reasons.{form}
-use Rattle.packing_terms.specs.Limits.{most_height}
-use Rattle.document_terms.specs.Claims.{most_worth}
+use Rattle.packing_terms.specs.Limits.{max_height}
+use Rattle.document_terms.specs.Claims.{max_worth}
 use Rattle.verdict_terms.specs.Numbers.{wanted_by, wanted, all_wanted, numbers_line}
 use Rattle.document_terms.proofs.Cuts.{cut_by, cut_rest}
 use Rattle.verdict_terms.specs.Results.{none_claim, one_claim, two_claim, claim_of}
@@ -103,8 +103,8 @@ claim_front Fit instance (word ∷ second ∷ words) = refl
 claim_front Strip instance [] = refl
 claim_front Strip instance (word ∷ []) = none_front NoHeight word
 claim_front Strip instance (word ∷ number ∷ []) =
-    one_front (codes "least") 1 most_height LeastHeight word number (omega arith)
-claim_front Strip instance (word ∷ first ∷ second ∷ []) = two_front most_height HeightBetween word first second
+    one_front (codes "least") 1 max_height LeastHeight word number (omega arith)
+claim_front Strip instance (word ∷ first ∷ second ∷ []) = two_front max_height HeightBetween word first second
 claim_front Strip instance (word ∷ first ∷ second ∷ third ∷ words) = refl
 claim_front Bins instance [] = refl
 claim_front Bins instance (word ∷ []) = none_front NoBins word
@@ -115,8 +115,8 @@ claim_front Bins instance (word ∷ first ∷ second ∷ third ∷ words) = refl
 claim_front Knapsack instance [] = refl
 claim_front Knapsack instance (word ∷ []) = refl
 claim_front Knapsack instance (word ∷ number ∷ []) =
-    one_front (codes "greatest") 0 most_worth GreatestValue word number (omega arith)
-claim_front Knapsack instance (word ∷ first ∷ second ∷ []) = two_front most_worth ValueBetween word first second
+    one_front (codes "greatest") 0 max_worth GreatestValue word number (omega arith)
+claim_front Knapsack instance (word ∷ first ∷ second ∷ []) = two_front max_worth ValueBetween word first second
 claim_front Knapsack instance (word ∷ first ∷ second ∷ third ∷ words) = refl
 
 claim_many : (job : SolvingJob) (instance : PlainInstance) (words : List (List ℕ)) → 11 ≤ length words

@@ -47,7 +47,7 @@ use Rattle.verdict_terms.specs.Trees.{refuted_dims, tree_dims, tree_after}
 use Rattle.verdict_terms.specs.Results.{claim_of}
 use Rattle.verdict_terms.specs.Stages.{Stage, text_fault, end_of_parts, is_result, reading_line, rest_of, words_line}
 use Rattle.verdict_terms.specs.Stages.{share_line, take_box_line, exceeding_token, refused_by, places_reason}
-use Rattle.verdict_terms.specs.Stages.{bins_reason, taken_reason, to_refute, is_word, tree_token, coded, late_line}
+use Rattle.verdict_terms.specs.Stages.{bins_reason, taken_reason, refutation_goal, is_word, tree_token, coded, late_line}
 use Rattle.verdict_terms.specs.Stages.{late_by, grown_tree, proving, placed, claimed, filled_line, stage_after, is_blank}
 use Rattle.verdict_terms.specs.Stages.{value_stage, bounding_end, bounding_token, gathering_end, gathering_token}
 use Rattle.verdict_terms.specs.Stages.Stage.{Beginning, Reading, Placing, Sharing, Taking, Proving, Refuting, Exceeding}
@@ -83,7 +83,7 @@ module _ (instance : PlainInstance) (few : dims instance ≤ 4) where
   higher : (h : ℕ) → dims (with_last_side instance h) ≤ 4
   higher h = let e = length-set instance.container (dims instance - 1) h in omega (arith, e, few)
 
-  refute_well : (heading : Heading) (claim : Claim) → refuted_dims (to_refute heading instance claim) ≤ 4
+  refute_well : (heading : Heading) (claim : Claim) → refuted_dims (refutation_goal heading instance claim) ≤ 4
   refute_well heading Fitting = few
   refute_well heading NotFitting = few
   refute_well heading (LeastHeight h) = higher (pred h)
@@ -160,16 +160,16 @@ share_well instance claim k bins places (b ∷ ns) few next e =
     let c = bind_ok (coordinates ns) _ next q.1 in
     place_well (length (bins ++ pred b ∷ []) == box_count instance)
     (bins_reason instance k (bins ++ pred b ∷ []) (places ++ c.0))
-    (placed Answer claim (to_refute Answer instance claim))
+    (placed Answer claim (refutation_goal Answer instance claim))
     (Sharing instance claim k (bins ++ pred b ∷ []) (places ++ c.0))
-    (placed_well Answer claim (to_refute Answer instance claim) (refute_well instance few Answer claim)) few next c.2
+    (placed_well Answer claim (refutation_goal Answer instance claim) (refute_well instance few Answer claim)) few next c.2
 
 value_well : (heading : Heading) (instance : PlainInstance) (claim : Claim) → dims instance ≤ 4
     → IsWell (value_stage heading instance claim)
 value_well Answer instance claim few =
-    begun_well (to_refute Answer instance claim) (refute_well instance few Answer claim)
+    begun_well (refutation_goal Answer instance claim) (refute_well instance few Answer claim)
 value_well Reduced instance claim few =
-    begun_well (to_refute Reduced instance claim) (refute_well instance few Reduced claim)
+    begun_well (refutation_goal Reduced instance claim) (refute_well instance few Reduced claim)
 value_well Bounded instance claim few = few
 
 take_well : (heading : Heading) (instance : PlainInstance) (claim : Claim) (value : ℕ) (taken places ns : List ℕ) → dims instance ≤ 4

@@ -9,7 +9,7 @@ use Rattle.text_terms.proofs.FormNumbers.{word_is}
 use Rattle.verdict_terms.specs.declared.reason.Reason.{Reason}
 use Rattle.verdict_terms.specs.Reasons.{form}
 use Rattle.verdict_terms.specs.Form.{AreCoordinates}
-use Rattle.verdict_terms.specs.Numbers.{most_coordinate, require, wanted_by, wanted, all_wanted, numbers_line}
+use Rattle.verdict_terms.specs.Numbers.{max_coordinate, require, wanted_by, wanted, all_wanted, numbers_line}
 use Rattle.verdict_terms.specs.Numbers.{are_coordinates, coordinates}
 use Rattle.verdict_terms.specs.Stages.{refused_by, is_word}
 
@@ -48,7 +48,7 @@ numbers_are (word ∷ words) ns e h =
     let same : a.0 ∷ b.0 ≡ ns = cc (b.2) in
     let k = and_parts _ _ (subst (λ l. are_coordinates l ≡ true) (sym same) h) in
     subst (λ l. AreCoordinates (word ∷ words) l) same (
-      record { number = wanted_ok word a.0 a.1; least = omega arith; most = leb-true a.0 most_coordinate k.0 },
+      record { number = wanted_ok word a.0 a.1; least = omega arith; most = leb-true a.0 max_coordinate k.0 },
       numbers_are words b.0 b.1 k.1,
     )
 

@@ -26,7 +26,7 @@ use Rattle.verdict_terms.specs.declared.reason.Reason.TheVariants.{TooLittle}
 use Rattle.verdict_terms.specs.Numbers.{wanted, all_wanted, numbers_line, coordinates}
 use Rattle.verdict_terms.specs.Trees.{Refuted}
 use Rattle.verdict_terms.specs.Stages.{Stage, first_outside, first_overlap, first_reason, groups_reason, places_reason}
-use Rattle.verdict_terms.specs.Stages.{bins_reason, taken_reason, refused_by, to_refute, placed, place_line, share_line}
+use Rattle.verdict_terms.specs.Stages.{bins_reason, taken_reason, refused_by, refutation_goal, placed, place_line, share_line}
 use Rattle.verdict_terms.specs.Stages.{take_box_line, words_line, is_word, value_stage}
 use Rattle.verdict_terms.specs.Stages.Stage.{Placing, Sharing, Taking}
 use Rattle.verdict_terms.specs.Form.{IsPlaceLine, IsNumberedLine, ArePlaceLines, AreNumberedLines}
@@ -192,7 +192,7 @@ places_given heading instance claim refuted places more (words ∷ front) back s
 abbrev behind_share : PlainInstance → Claim → ℕ → List ℕ → List ℕ → Bool → Result Stage Reason
 behind_share instance claim k bins places t =
     elim t as (λ x. Result Stage Reason) [
-      | true ↦ refused_by (bins_reason instance k bins places) (Ok (placed Answer claim (to_refute Answer instance claim)))
+      | true ↦ refused_by (bins_reason instance k bins places) (Ok (placed Answer claim (refutation_goal Answer instance claim)))
       | false ↦ Ok (Sharing instance claim k bins places)
     ]
 
@@ -229,7 +229,7 @@ pub shares_given : (instance : PlainInstance) (claim : Claim) (k : ℕ) (bins pl
     → length (bins ++ more_bins) ≡ box_count instance → length bins < box_count instance
     → bins_reason instance k (bins ++ more_bins) (places ++ more) ≡ None
     → read_words (Sharing instance claim k bins places) (front ++ back)
-    ≡ read_words (placed Answer claim (to_refute Answer instance claim)) back
+    ≡ read_words (placed Answer claim (refutation_goal Answer instance claim)) back
 shares_given instance claim k bins places [] more [] back are count low good =
     absurd (let a = ap length (append-nil bins) in omega (arith, a, count, low))
 shares_given instance claim k bins places (n ∷ ns) more [] back are count low good = absurd are
@@ -252,17 +252,17 @@ shares_given instance claim k bins places (n ∷ ns) more (words ∷ front) back
         → bins_reason instance k ((bins ++ n ∷ []) ++ ms) ((places ++ xs) ++ rest) ≡ None
         → (length (bins ++ n ∷ []) < box_count instance
         → read_words (Sharing instance claim k (bins ++ n ∷ []) (places ++ xs)) (lines ++ back)
-        ≡ read_words (placed Answer claim (to_refute Answer instance claim)) back)
+        ≡ read_words (placed Answer claim (refutation_goal Answer instance claim)) back)
         → read_words (Sharing instance claim k bins places) (words ∷ (lines ++ back))
-        ≡ read_words (placed Answer claim (to_refute Answer instance claim)) back
+        ≡ read_words (placed Answer claim (refutation_goal Answer instance claim)) back
     after_share true t xs rest line [] [] are total calm go_on =
         let quiet : bins_reason instance k (bins ++ n ∷ []) (places ++ xs) ≡ None =
         ap₂ (λ b p. bins_reason instance k b p) (sym (append-nil (bins ++ n ∷ [])))
         (sym (append-nil (places ++ xs)) ∙ ap (λ r. (places ++ xs) ++ r) (sym are)) ∙ calm in
-        bound (words_line (Sharing instance claim k bins places) words) (placed Answer claim (to_refute Answer instance claim))
+        bound (words_line (Sharing instance claim k bins places) words) (placed Answer claim (refutation_goal Answer instance claim))
         (λ next. read_words next back)
         (share_taken instance claim k n bins places xs words true line t
-        ∙ ap (λ o. refused_by o (Ok (placed Answer claim (to_refute Answer instance claim)))) quiet)
+        ∙ ap (λ o. refused_by o (Ok (placed Answer claim (refutation_goal Answer instance claim)))) quiet)
     after_share true t xs rest line [] (w ∷ ws) are total calm go_on = absurd are
     after_share true t xs rest line (m ∷ ms) [] are total calm go_on = absurd are
     after_share true t xs rest line (m ∷ ms) (w ∷ ws) are total calm go_on =

@@ -26,7 +26,7 @@ use Rattle.verdict_terms.specs.Reasons.{range}
 use Rattle.verdict_terms.specs.Numbers.{wanted, all_wanted, numbers_line, coordinates}
 use Rattle.verdict_terms.specs.Trees.{Refuted}
 use Rattle.verdict_terms.specs.Stages.{Stage, first_outside, first_overlap, first_reason, groups_reason, places_reason}
-use Rattle.verdict_terms.specs.Stages.{bins_reason, taken_reason, refused_by, to_refute, placed, place_line, share_line}
+use Rattle.verdict_terms.specs.Stages.{bins_reason, taken_reason, refused_by, refutation_goal, placed, place_line, share_line}
 use Rattle.verdict_terms.specs.Stages.{take_box_line, words_line, is_word, value_stage}
 use Rattle.verdict_terms.specs.Stages.Stage.{Placing, Sharing, Taking}
 use Rattle.verdict_terms.specs.Form.{AreCoordinates, IsPlaceLine, IsNumberedLine, ArePlaceLines, AreNumberedLines}
@@ -209,7 +209,7 @@ pub record SharesTold (instance : PlainInstance) (claim told : Claim) (k : ℕ) 
   pub below : All (λ b. b < k) more_bins
   pub count : length (bins ++ more_bins) ≡ box_count instance
   pub good : bins_reason instance k (bins ++ more_bins) (places ++ more) ≡ None
-  pub rest : read_words (placed Answer claim (to_refute Answer instance claim)) back ≡ Ok told
+  pub rest : read_words (placed Answer claim (refutation_goal Answer instance claim)) back ≡ Ok told
 
 all_cons : (P : ℕ → Type 0) (x : ℕ) (xs : List ℕ) → P x → All P xs → All P (x ∷ xs)
 all_cons P x xs p ps zero d h = p
@@ -222,7 +222,7 @@ share_told : (instance : PlainInstance) (claim told : Claim) (k : ℕ) (bins pla
     → (length (bins ++ n ∷ []) == box_count instance) ≡ t → (next : Stage)
     → ◌≡◌ {A = Result Stage Reason} (elim t [
       | true ↦ refused_by (bins_reason instance k (bins ++ n ∷ []) (places ++ xs))
-          (Ok (placed Answer claim (to_refute Answer instance claim)))
+          (Ok (placed Answer claim (refutation_goal Answer instance claim)))
       | false ↦ Ok (Sharing instance claim k (bins ++ n ∷ []) (places ++ xs))
     ]) (Ok next)
     → read_words next lines ≡ Ok told
@@ -231,7 +231,7 @@ share_told : (instance : PlainInstance) (claim told : Claim) (k : ℕ) (bins pla
     → SharesTold instance claim told k bins places (words ∷ lines)
 share_told instance claim told k bins places words lines n xs line small true t next f r later =
     let g = refused_ok (bins_reason instance k (bins ++ n ∷ []) (places ++ xs))
-    (Ok (placed Answer claim (to_refute Answer instance claim))) next f in record {
+    (Ok (placed Answer claim (refutation_goal Answer instance claim))) next f in record {
       front = words ∷ [];
       back = lines;
       more_bins = n ∷ [];
@@ -242,7 +242,7 @@ share_told instance claim told k bins places words lines n xs line small true t 
       count = eqb-true (length (bins ++ n ∷ [])) (box_count instance) t;
       good = g.0;
       rest = subst (λ s. read_words s lines ≡ Ok told)
-          (sym (ok_is (placed Answer claim (to_refute Answer instance claim)) next g.1)) r;
+          (sym (ok_is (placed Answer claim (refutation_goal Answer instance claim)) next g.1)) r;
     }
 share_told instance claim told k bins places words lines n xs line small false t next f r later =
     let d = later (bins ++ n ∷ []) (places ++ xs)

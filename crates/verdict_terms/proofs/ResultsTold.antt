@@ -18,8 +18,8 @@ use Rattle.document_terms.specs.declared.claim.Claim.TheVariants.{GreatestValue,
 use Rattle.verdict_terms.specs.declared.reason.Reason.{Reason}
 use Rattle.verdict_terms.specs.Reasons.{form, range}
 use Rattle.verdict_terms.specs.declared.reason.Reason.TheVariants.{NoClaim}
-use Rattle.packing_terms.specs.Limits.{most_height}
-use Rattle.document_terms.specs.Claims.{most_worth}
+use Rattle.packing_terms.specs.Limits.{max_height}
+use Rattle.document_terms.specs.Claims.{max_worth}
 use Rattle.verdict_terms.specs.Numbers.{require, wanted}
 use Rattle.verdict_terms.specs.Results.{none_claim, one_claim, two_claim, claim_of}
 use Rattle.verdict_terms.specs.Form.{SaysOne, SaysTwo, IsResult}
@@ -140,9 +140,9 @@ module _ (instance : PlainInstance) (claim : Claim) where
   result_told Strip [] e = absurd (cc (e))
   result_told Strip (word ∷ []) e = by_none Strip NoHeight word refl (λ w. ap (λ x. x ∷ []) w) e
   result_told Strip (word ∷ number ∷ []) e =
-      by_one Strip (codes "least") 1 most_height LeastHeight word number (λ n. refl) (λ n s. s) e
+      by_one Strip (codes "least") 1 max_height LeastHeight word number (λ n. refl) (λ n s. s) e
   result_told Strip (word ∷ first ∷ second ∷ []) e =
-      by_two Strip most_height HeightBetween word first second (λ a b. refl) (λ a b s. s) e
+      by_two Strip max_height HeightBetween word first second (λ a b. refl) (λ a b s. s) e
   result_told Strip (word ∷ first ∷ second ∷ third ∷ words) e = absurd (cc (e))
   result_told Bins [] e = absurd (cc (e))
   result_told Bins (word ∷ []) e = by_none Bins NoBins word refl (λ w. ap (λ x. x ∷ []) w) e
@@ -154,7 +154,7 @@ module _ (instance : PlainInstance) (claim : Claim) where
   result_told Knapsack [] e = absurd (cc (e))
   result_told Knapsack (word ∷ []) e = absurd (cc (e))
   result_told Knapsack (word ∷ number ∷ []) e =
-      by_one Knapsack (codes "greatest") 0 most_worth GreatestValue word number (λ n. refl) (λ n s. s) e
+      by_one Knapsack (codes "greatest") 0 max_worth GreatestValue word number (λ n. refl) (λ n s. s) e
   result_told Knapsack (word ∷ first ∷ second ∷ []) e =
-      by_two Knapsack most_worth ValueBetween word first second (λ a b. refl) (λ a b s. s) e
+      by_two Knapsack max_worth ValueBetween word first second (λ a b. refl) (λ a b s. s) e
   result_told Knapsack (word ∷ first ∷ second ∷ third ∷ words) e = absurd (cc (e))

@@ -13,7 +13,7 @@ use Rattle.document_terms.specs.declared.claim.Claim.{Claim}
 use Rattle.verdict_terms.specs.declared.reason.Reason.{Reason}
 use Rattle.verdict_terms.specs.Reasons.{form, range}
 use Rattle.verdict_terms.specs.Form.{AreCoordinates}
-use Rattle.verdict_terms.specs.Numbers.{most_coordinate, require, wanted_by, wanted, all_wanted, numbers_line}
+use Rattle.verdict_terms.specs.Numbers.{max_coordinate, require, wanted_by, wanted, all_wanted, numbers_line}
 use Rattle.verdict_terms.specs.Numbers.{are_coordinates, coordinates}
 use Rattle.verdict_terms.specs.Stages.{Stage, words_line, filled_line, stage_after}
 use Rattle.verdict_terms.specs.Stages.Stage.{Beginning, Reading, Placing, Sharing, Taking, Proving, Refuting, Exceeding}
@@ -47,7 +47,7 @@ pub are_small : (words : List (List ℕ)) (ns : List ℕ) → AreCoordinates wor
 are_small [] [] are = refl
 are_small [] (n ∷ ns) are = absurd are
 are_small (word ∷ words) [] are = absurd are
-are_small (word ∷ words) (n ∷ ns) are = and_from _ _ (le-leb n most_coordinate are.0.most) (are_small words ns are.1)
+are_small (word ∷ words) (n ∷ ns) are = and_from _ _ (le-leb n max_coordinate are.0.most) (are_small words ns are.1)
 
 pub coordinates_are : (words : List (List ℕ)) (ns : List ℕ) → AreCoordinates words ns → coordinates ns ≡ Ok ns
 coordinates_are words ns are = ap (λ b. cond b (Ok ns) (Err range)) (are_small words ns are)

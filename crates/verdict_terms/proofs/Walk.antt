@@ -37,7 +37,7 @@ use Rattle.verdict_terms.specs.declared.reason.Reason.{Reason}
 use Rattle.verdict_terms.specs.Reasons.{form, range, after}
 use Rattle.verdict_terms.specs.declared.reason.Reason.TheVariants.{TooShort}
 use Rattle.verdict_terms.specs.Stages.{Stage, words_line, share_line, take_box_line, exceeding_token, refused_by}
-use Rattle.verdict_terms.specs.Stages.{places_reason, bins_reason, taken_reason, to_refute, is_word, tree_token, coded}
+use Rattle.verdict_terms.specs.Stages.{places_reason, bins_reason, taken_reason, refutation_goal, is_word, tree_token, coded}
 use Rattle.verdict_terms.specs.Stages.{late_line, grown_tree, filled_line, stage_after, proving, placed, value_stage}
 use Rattle.verdict_terms.specs.Stages.{bounding_end, bounding_token, gathering_end, gathering_token}
 use Rattle.verdict_terms.specs.Stages.Stage.{Beginning, Reading, Placing, Sharing, Taking, Proving, Refuting, Exceeding}
@@ -175,8 +175,8 @@ share_later instance claim k bins places (b ∷ ns) next e =
     let c = bind_ok (coordinates ns) _ next q.1 in
     bool_gives (length (bins ++ pred b ∷ []) == box_count instance) _ _
     (refused_gives (bins_reason instance k (bins ++ pred b ∷ []) (places ++ c.0))
-    (placed Answer claim (to_refute Answer instance claim))
-    (placed_later Answer claim (to_refute Answer instance claim)))
+    (placed Answer claim (refutation_goal Answer instance claim))
+    (placed_later Answer claim (refutation_goal Answer instance claim)))
     (gives (Sharing instance claim k (bins ++ pred b ∷ []) (places ++ c.0)) tt) next c.2
 
 value_later : (heading : Heading) (instance : PlainInstance) (claim : Claim)

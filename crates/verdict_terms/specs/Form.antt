@@ -22,9 +22,9 @@ use Rattle.document_terms.specs.Claims.{job_of, job_word, IsTrueOf}
 use Rattle.document_terms.specs.declared.claim.Claim.TheVariants.{Fitting, NotFitting, LeastHeight, HeightBetween}
 use Rattle.document_terms.specs.declared.claim.Claim.TheVariants.{NoHeight, LeastBins, BinsBetween, NoBins}
 use Rattle.document_terms.specs.declared.claim.Claim.TheVariants.{GreatestValue, ValueBetween}
-use Rattle.packing_terms.specs.Limits.{most_height}
-use Rattle.document_terms.specs.Claims.{most_worth}
-use Rattle.verdict_terms.specs.Numbers.{most_coordinate}
+use Rattle.packing_terms.specs.Limits.{max_height}
+use Rattle.document_terms.specs.Claims.{max_worth}
+use Rattle.verdict_terms.specs.Numbers.{max_coordinate}
 use Rattle.document_terms.specs.TokenLines.{token_of}
 use Rattle.verdict_terms.specs.Trees.{Refuted, ToFit, ToFitIn, ToReach, refuted_dims, AreRefutation}
 use Rattle.verdict_terms.specs.declared.heading.Heading.{Heading}
@@ -54,14 +54,14 @@ pub record SaysTwo (high a b : ℕ) (words : List (List ℕ)) : Type 0 where
 abbrev pub IsResult : PlainInstance → Claim → List (List ℕ) → Type 0
 IsResult instance Fitting words = words ≡ codes "yes" ∷ []
 IsResult instance NotFitting words = words ≡ codes "no" ∷ []
-IsResult instance (LeastHeight h) words = SaysOne (codes "least") 1 most_height h words
-IsResult instance (HeightBetween a b) words = SaysTwo most_height a b words
+IsResult instance (LeastHeight h) words = SaysOne (codes "least") 1 max_height h words
+IsResult instance (HeightBetween a b) words = SaysTwo max_height a b words
 IsResult instance NoHeight words = words ≡ codes "none" ∷ []
 IsResult instance (LeastBins k) words = SaysOne (codes "least") 1 (box_count instance) k words
 IsResult instance (BinsBetween a b) words = SaysTwo (box_count instance) a b words
 IsResult instance NoBins words = words ≡ codes "none" ∷ []
-IsResult instance (GreatestValue v) words = SaysOne (codes "greatest") 0 most_worth v words
-IsResult instance (ValueBetween a b) words = SaysTwo most_worth a b words
+IsResult instance (GreatestValue v) words = SaysOne (codes "greatest") 0 max_worth v words
+IsResult instance (ValueBetween a b) words = SaysTwo max_worth a b words
 
 -- ---- places
 
@@ -70,7 +70,7 @@ abbrev pub AreCoordinates : List (List ℕ) → List ℕ → Type 0
 AreCoordinates [] [] = Unit {0}
 AreCoordinates [] (n ∷ ns) = ⊥
 AreCoordinates (word ∷ words) [] = ⊥
-AreCoordinates (word ∷ words) (n ∷ ns) = IsNumber 0 most_coordinate word n × AreCoordinates words ns
+AreCoordinates (word ∷ words) (n ∷ ns) = IsNumber 0 max_coordinate word n × AreCoordinates words ns
 
 -- a first word, and d coordinates
 pub record IsPlaceLine (d : ℕ) (words : List (List ℕ)) (xs : List ℕ) : Type 0 where

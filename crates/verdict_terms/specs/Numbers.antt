@@ -8,8 +8,8 @@ use Rattle.verdict_terms.specs.declared.reason.Reason.{Reason}
 use Rattle.verdict_terms.specs.Reasons.{form, range}
 
 -- the most that a coordinate is
-abbrev pub most_coordinate : ℕ
-most_coordinate = 4294967295
+abbrev pub max_coordinate : ℕ
+max_coordinate = 4294967295
 
 -- refused with the reason unless the test holds, else what follows
 abbrev pub require : {A : Type 0} → Bool → Reason → Result A Reason → Result A Reason
@@ -36,7 +36,7 @@ numbers_line key count (word ∷ words) =
 
 -- the coordinates that numbers are
 abbrev pub are_coordinates : List ℕ → Bool
-are_coordinates ns = list_all (λ n. nat_le n most_coordinate) ns
+are_coordinates ns = list_all (λ n. nat_le n max_coordinate) ns
 
 abbrev pub coordinates : List ℕ → Result (List ℕ) Reason
 coordinates ns = require (are_coordinates ns) range (Ok ns)

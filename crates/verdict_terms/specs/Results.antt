@@ -13,8 +13,8 @@ use Rattle.document_terms.specs.declared.claim.Claim.TheVariants.{GreatestValue,
 use Rattle.verdict_terms.specs.declared.reason.Reason.{Reason}
 use Rattle.verdict_terms.specs.Reasons.{form, range}
 use Rattle.verdict_terms.specs.declared.reason.Reason.TheVariants.{NoClaim}
-use Rattle.packing_terms.specs.Limits.{most_height}
-use Rattle.document_terms.specs.Claims.{most_worth}
+use Rattle.packing_terms.specs.Limits.{max_height}
+use Rattle.document_terms.specs.Claims.{max_worth}
 use Rattle.verdict_terms.specs.Numbers.{require, wanted}
 
 -- `none`
@@ -40,11 +40,11 @@ claim_of Fit instance (word ∷ []) =
     cond (same_bytes word (codes "no")) (Ok NotFitting) (
     cond (same_bytes word (codes "undecided")) (Err NoClaim) (Err form)))
 claim_of Strip instance (word ∷ []) = none_claim NoHeight word
-claim_of Strip instance (word ∷ number ∷ []) = one_claim (codes "least") 1 most_height LeastHeight word number
-claim_of Strip instance (word ∷ first ∷ second ∷ []) = two_claim most_height HeightBetween word first second
+claim_of Strip instance (word ∷ number ∷ []) = one_claim (codes "least") 1 max_height LeastHeight word number
+claim_of Strip instance (word ∷ first ∷ second ∷ []) = two_claim max_height HeightBetween word first second
 claim_of Bins instance (word ∷ []) = none_claim NoBins word
 claim_of Bins instance (word ∷ number ∷ []) = one_claim (codes "least") 1 (box_count instance) LeastBins word number
 claim_of Bins instance (word ∷ first ∷ second ∷ []) = two_claim (box_count instance) BinsBetween word first second
-claim_of Knapsack instance (word ∷ number ∷ []) = one_claim (codes "greatest") 0 most_worth GreatestValue word number
-claim_of Knapsack instance (word ∷ first ∷ second ∷ []) = two_claim most_worth ValueBetween word first second
+claim_of Knapsack instance (word ∷ number ∷ []) = one_claim (codes "greatest") 0 max_worth GreatestValue word number
+claim_of Knapsack instance (word ∷ first ∷ second ∷ []) = two_claim max_worth ValueBetween word first second
 claim_of _ _ _ = Err form

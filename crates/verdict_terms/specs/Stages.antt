@@ -135,15 +135,15 @@ start_exclusions Reduced instance = symmetry_facts instance
 start_exclusions Bounded instance = []
 
 -- what a claim under a heading says to be refuted; the facts of the instance are those of all heights
-abbrev pub to_refute : Heading → PlainInstance → Claim → Refuted
-to_refute heading instance (LeastHeight h) =
+abbrev pub refutation_goal : Heading → PlainInstance → Claim → Refuted
+refutation_goal heading instance (LeastHeight h) =
     ToFit (with_last_side instance (pred h)) (start_exclusions heading instance)
-to_refute heading instance (HeightBetween a b) = ToFit (with_last_side instance a) (start_exclusions heading instance)
-to_refute heading instance (LeastBins k) = ToFitIn instance (pred k)
-to_refute heading instance (BinsBetween a b) = ToFitIn instance a
-to_refute heading instance (GreatestValue v) = ToReach instance (suc v)
-to_refute heading instance (ValueBetween a b) = ToReach instance b
-to_refute heading instance _ = ToFit instance (start_exclusions heading instance)
+refutation_goal heading instance (HeightBetween a b) = ToFit (with_last_side instance a) (start_exclusions heading instance)
+refutation_goal heading instance (LeastBins k) = ToFitIn instance (pred k)
+refutation_goal heading instance (BinsBetween a b) = ToFitIn instance a
+refutation_goal heading instance (GreatestValue v) = ToReach instance (suc v)
+refutation_goal heading instance (ValueBetween a b) = ToReach instance b
+refutation_goal heading instance _ = ToFit instance (start_exclusions heading instance)
 
 -- the value that a claim says isn't reached
 abbrev pub value_refuted : Claim → ℕ
@@ -153,18 +153,18 @@ value_refuted _ = 0
 
 -- behind the `proof` of a claim on a value
 abbrev pub value_stage : Heading → PlainInstance → Claim → Stage
-value_stage Answer instance claim = Refuting claim (begun (to_refute Answer instance claim))
-value_stage Reduced instance claim = Refuting claim (begun (to_refute Reduced instance claim))
+value_stage Answer instance claim = Refuting claim (begun (refutation_goal Answer instance claim))
+value_stage Reduced instance claim = Refuting claim (begun (refutation_goal Reduced instance claim))
 value_stage Bounded instance claim = Bounding instance claim (value_refuted claim) (Outer no_choice ∷ [])
 
 -- behind the result line
 abbrev pub claimed : Heading → PlainInstance → Claim → Stage
-claimed heading instance Fitting = Placing heading instance Fitting (to_refute heading instance Fitting) []
-claimed heading instance NotFitting = Refuting NotFitting (begun (to_refute heading instance NotFitting))
+claimed heading instance Fitting = Placing heading instance Fitting (refutation_goal heading instance Fitting) []
+claimed heading instance NotFitting = Refuting NotFitting (begun (refutation_goal heading instance NotFitting))
 claimed heading instance (LeastHeight h) =
-    Placing heading (with_last_side instance h) (LeastHeight h) (to_refute heading instance (LeastHeight h)) []
+    Placing heading (with_last_side instance h) (LeastHeight h) (refutation_goal heading instance (LeastHeight h)) []
 claimed heading instance (HeightBetween a b) =
-    Placing heading (with_last_side instance b) (HeightBetween a b) (to_refute heading instance (HeightBetween a b)) []
+    Placing heading (with_last_side instance b) (HeightBetween a b) (refutation_goal heading instance (HeightBetween a b)) []
 claimed heading instance NoHeight = Exceeding instance NoHeight (dims instance - 1)
 claimed heading instance (LeastBins k) = Sharing instance (LeastBins k) k [] []
 claimed heading instance (BinsBetween a b) = Sharing instance (BinsBetween a b) b [] []
@@ -265,7 +265,7 @@ share_line instance claim k bins places (b ∷ ns) =
     require (nat_le 1 b && nat_le b k) range (coordinates ns >>= λ xs.
     elim (length (bins ++ pred b ∷ []) == box_count instance) [
       | true ↦ refused_by (bins_reason instance k (bins ++ pred b ∷ []) (places ++ xs))
-          (Ok (placed Answer claim (to_refute Answer instance claim)))
+          (Ok (placed Answer claim (refutation_goal Answer instance claim)))
       | false ↦ Ok (Sharing instance claim k (bins ++ pred b ∷ []) (places ++ xs))
     ])
 

@@ -14,7 +14,7 @@ use Rattle.work_share.specs.declared.slot.Slot.{Slot}
 use Rattle.work_share.specs.declared.slot.Piece.{Piece}
 use Rattle.work_share.specs.declared.slot.Piece.TheVariants.{Open, Refuted}
 use Rattle.work_share.specs.Slots.{entry_of, entry_or, entry_at, entries_of}
-use Rattle.work_share.specs.Links.{behind_at, order_of, IsLinked}
+use Rattle.work_share.specs.Links.{next_of, order_of, IsLinked}
 use Rattle.work_share.specs.Fronts.{piece_of, IsRefutedPiece, AreRefuted, count_in, counted, Ends, EndsWithFirst}
 use Rattle.work_share.specs.Fronts.{IsOpen, StandsAt, HasFront, HasFrontTo, IsFront}
 use Rattle.work_share.proofs.Links.{chain_next}
@@ -215,7 +215,7 @@ module _ (slots : List Slot) (len n : ℕ) (behind : Option ℕ) (linked : IsLin
       ≡ piece_of (get_or (entries_of slots (order_of slots)) len no_entry)
   linked_piece p e = e ∙ ap piece_of (sym (linked_entry no_entry))
 
-  pub linked_more : (after : Option ℕ) → after ≡ behind_at slots n → IsLinked slots (len + 1) after
+  pub linked_more : (after : Option ℕ) → after ≡ next_of slots n → IsLinked slots (len + 1) after
   linked_more after e = record {
     chain = linked.chain;
     here = e ∙ (chain_next slots (Some 0) (order_of slots) len n linked.chain linked_there

@@ -7,7 +7,7 @@ use Rattle.std.specs.Prelude.{slice_get}
 use Rattle.std.proofs.lemmas.Bool.{cases_eq, cases_lt}
 use Rattle.std.proofs.lemmas.List.{reverse-reverse, map-append, take-append-drop, length-take-le}
 use Rattle.tree_terms.specs.Trees.{SearchTree, node_at}
-use Rattle.tree_terms.specs.Paths.{Splits, node_told}
+use Rattle.tree_terms.specs.Paths.{Splits, node_view}
 use Rattle.board_terms.specs.declared.Event.{Event}
 use Rattle.board_terms.specs.declared.Event.TheVariants as event
 use Rattle.board_terms.specs.Board.{TaskEntry, PlainTask, Out, out_path, children_from}
@@ -19,7 +19,7 @@ use Rattle.proof_tree.specs.Plain.{plain_token}
 use Rattle.work_share.specs.declared.slot.Slot.{Slot}
 use Rattle.work_share.specs.declared.slot.SlotState.TheVariants as stored
 use Rattle.work_share.specs.Slots.{entry_at, entries_of, entries_from, with_slot}
-use Rattle.work_share.specs.Links.{behind_at, order_of, IsChain, IsLinked, link_to, links_from, links_of, with_link}
+use Rattle.work_share.specs.Links.{next_of, order_of, IsChain, IsLinked, link_to, links_from, links_of, with_link}
 use Rattle.work_share.specs.Stacks.{count_left}
 use Rattle.work_share.specs.Fronts.{IsFront, HasFrontTo}
 use Rattle.work_share.specs.Boards.{stored_state, waiting_tasks, IsIn, IsKept}
@@ -76,16 +76,16 @@ module _ (tree : SearchTree) (budget : ℕ) (slots : List Slot) (order : List �
     capacity) (n : ℕ) (p : List ℕ)
     (out : out_path n (entries_of slots order) ≡ Some p) (token : Token) (own c : ℕ) (made : List Slot) where
   abbrev relinked : List Slot
-  relinked = with_link slots n (link_to (length slots) c (behind_at slots n))
+  relinked = with_link slots n (link_to (length slots) c (next_of slots n))
 
   abbrev divided : List Slot
   divided = with_slot relinked n (stored.Split token own c) ++ made
 
   same : entries_of relinked order ≡ entries_of slots order
-  same = entries_linked slots n (link_to (length slots) c (behind_at slots n)) order
+  same = entries_linked slots n (link_to (length slots) c (next_of slots n)) order
 
   size : length relinked ≡ length slots
-  size = length_with_link slots n (link_to (length slots) c (behind_at slots n))
+  size = length_with_link slots n (link_to (length slots) c (next_of slots n))
 
   kept_here : IsKept tree budget relinked order stack len count ended short history capacity
   kept_here = kept_same tree budget slots relinked order stack len count ended short history capacity kept same size
@@ -158,7 +158,7 @@ module _ (tree : SearchTree) (budget : ℕ) (slots : List Slot) (order : List �
       go (inr l) = l
 
   module _ (children : entries_from (length slots) made ≡ children_from p 0 c (length slots))
-      (links : links_of made ≡ links_from (length slots) c (behind_at slots n))
+      (links : links_of made ≡ links_from (length slots) c (next_of slots n))
       (chain : IsChain slots (Some 0) order) where
     abbrev new_order : List ℕ
     new_order = take (k + 1) order ++ (range_with_len (length relinked) c ++ drop (k + 1) order)
@@ -217,7 +217,7 @@ module _ (tree : SearchTree) (budget : ℕ) (slots : List Slot) (order : List �
         (split_known tree budget relinked order stack len count ended short history capacity kept_here n p out_here k
         passed (λ _. here) token own c made children_here)
 
-    module _ (right : IfSome (node_at (Some tree) p) (λ node. node_told node ≡ Splits (plain_token token) own c)) where
+    module _ (right : IfSome (node_at (Some tree) p) (λ node. node_view node ≡ Splits (plain_token token) own c)) where
       pub divide_step : Divides tree (stored_state slots order short) n (stored_state divided (order_of divided) short)
       divide_step =
           subst (λ ns. Divides tree (stored_state slots order short) n (stored_state divided ns short)) (sym order_is)

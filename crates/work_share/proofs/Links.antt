@@ -11,7 +11,7 @@ use Rattle.board_terms.specs.Kept.{IsNotIn, AreBelow}
 use Rattle.work_share.specs.declared.slot.Slot.{Slot}
 use Rattle.work_share.specs.declared.slot.SlotState.{SlotState}
 use Rattle.work_share.specs.Slots.{entry_or, entries_of, with_slot}
-use Rattle.work_share.specs.Links.{behind_in, behind_at, follow, order_of, IsChain, IsLinked, link_to, links_from}
+use Rattle.work_share.specs.Links.{behind_in, next_of, follow, order_of, IsChain, IsLinked, link_to, links_from}
 use Rattle.work_share.specs.Links.{links_of, with_link}
 use Rattle.work_share.specs.Boards.{IsIn}
 use Rattle.work_share.proofs.Stored.{length_with_slot}
@@ -30,14 +30,14 @@ length_with_link [] n link = refl
 length_with_link (x ∷ slots) zero link = refl
 length_with_link (x ∷ slots) (suc n) link = ap suc (length_with_link slots n link)
 
-pub link_same : (slots : List Slot) (n : ℕ) (link : Option ℕ) → n < length slots → behind_at (with_link slots n link) n
+pub link_same : (slots : List Slot) (n : ℕ) (link : Option ℕ) → n < length slots → next_of (with_link slots n link) n
     ≡ link
 link_same [] n link l = absurd (omega (arith, l))
 link_same (x ∷ slots) zero link l = refl
 link_same (x ∷ slots) (suc n) link l = link_same slots n link (omega (arith, l))
 
-pub link_other : (slots : List Slot) (n m : ℕ) (link : Option ℕ) → ¬ (m ≡ n) → behind_at (with_link slots n link) m
-    ≡ behind_at slots m
+pub link_other : (slots : List Slot) (n m : ℕ) (link : Option ℕ) → ¬ (m ≡ n) → next_of (with_link slots n link) m
+    ≡ next_of slots m
 link_other [] n m link d = refl
 link_other (x ∷ slots) zero zero link d = absurd (d refl)
 link_other (x ∷ slots) zero (suc m) link d = refl
@@ -60,8 +60,8 @@ entries_linked slots n link (m ∷ order) = ap₂ (λ e es. e ∷ es) (entry_lin
     (entries_linked slots n link order)
 
 -- a state changes no link
-pub link_stays : (slots : List Slot) (n m : ℕ) (state : SlotState) → behind_at (with_slot slots n state) m
-    ≡ behind_at slots m
+pub link_stays : (slots : List Slot) (n m : ℕ) (state : SlotState) → next_of (with_slot slots n state) m
+    ≡ next_of slots m
 link_stays [] n m state = refl
 link_stays (x ∷ slots) zero zero state = refl
 link_stays (x ∷ slots) zero (suc m) state = refl
@@ -71,7 +71,7 @@ link_stays (x ∷ slots) (suc n) (suc m) state = link_stays slots n m state
 -- nor does a slot with the same link
 pub link_set : (slots : List Slot) (n m : ℕ) (old new : Slot) → n < length slots → old ≡ get_or slots n old
     → new.behind ≡ old.behind
-    → behind_at (set slots n new) m ≡ behind_at slots m
+    → next_of (set slots n new) m ≡ next_of slots m
 link_set [] n m old new l is e = refl
 link_set (x ∷ slots) zero zero old new l is e = e ∙ ap (λ (s : Slot). s.behind) is
 link_set (x ∷ slots) zero (suc m) old new l is e = refl
@@ -79,7 +79,7 @@ link_set (x ∷ slots) (suc n) zero old new l is e = refl
 link_set (x ∷ slots) (suc n) (suc m) old new l is e = link_set slots n m old new (omega (arith, l)) is e
 
 pub link_read : (slots : List Slot) (n : ℕ) (slot : Slot) → n < length slots → slot ≡ get_or slots n slot → slot.behind
-    ≡ behind_at slots n
+    ≡ next_of slots n
 link_read slots n slot l is = sym (ap behind_in (slice_get_read slots (length slots) n slot refl l is))
 
 -- ---- what links lead through
@@ -91,25 +91,25 @@ followed slots start [] (suc more) h l = ap (follow slots (suc more)) h
 followed slots start (n ∷ order) zero h l = absurd (omega (arith, l))
 followed slots start (n ∷ order) (suc more) h l =
     ap (follow slots (suc more)) h.0 ∙ ap (λ ns. n ∷ ns)
-    (followed slots (behind_at slots n) order more h.1 (omega (arith, l)))
+    (followed slots (next_of slots n) order more h.1 (omega (arith, l)))
 
 -- slots with the same links
 pub follow_same : (slots others : List Slot) (more : ℕ) (start : Option ℕ)
-    → ((m : ℕ) → behind_at others m ≡ behind_at slots m)
+    → ((m : ℕ) → next_of others m ≡ next_of slots m)
     → follow others more start ≡ follow slots more start
 follow_same slots others zero start same = refl
 follow_same slots others (suc more) None same = refl
 follow_same slots others (suc more) (Some n) same =
-    ap (λ ns. n ∷ ns) (ap (follow others more) (same n) ∙ follow_same slots others more (behind_at slots n) same)
+    ap (λ ns. n ∷ ns) (ap (follow others more) (same n) ∙ follow_same slots others more (next_of slots n) same)
 
 pub chain_same : (slots others : List Slot) (start : Option ℕ) (order : List ℕ)
-    → ((m : ℕ) → IsIn m order → behind_at others m ≡ behind_at slots m)
+    → ((m : ℕ) → IsIn m order → next_of others m ≡ next_of slots m)
     → IsChain slots start order → IsChain others start order
 chain_same slots others start [] same h = h
 chain_same slots others start (n ∷ order) same h = (
   h.0,
   subst (λ s. IsChain others s order) (sym (same n (inl refl)))
-      (chain_same slots others (behind_at slots n) order (λ m i. same m (inr i)) h.1),
+      (chain_same slots others (next_of slots n) order (λ m i. same m (inr i)) h.1),
 )
 
 chain_head : (slots : List Slot) (start : Option ℕ) (order : List ℕ) → IsChain slots start order → start
@@ -120,11 +120,11 @@ chain_head slots start (n ∷ order) h = h.0
 -- the link at one position leads to the next
 pub chain_next : (slots : List Slot) (start : Option ℕ) (order : List ℕ) (k n : ℕ) → IsChain slots start order
     → slice_get order k ≡ Some n
-    → behind_at slots n ≡ slice_get order (suc k)
+    → next_of slots n ≡ slice_get order (suc k)
 chain_next slots start [] k n h e = absurd (cc e)
 chain_next slots start (x ∷ order) zero n h e =
-    ap (behind_at slots) (sym (same_Some x n e)) ∙ chain_head slots (behind_at slots x) order h.1
-chain_next slots start (x ∷ order) (suc k) n h e = chain_next slots (behind_at slots x) order k n h.1 e
+    ap (next_of slots) (sym (same_Some x n e)) ∙ chain_head slots (next_of slots x) order h.1
+chain_next slots start (x ∷ order) (suc k) n h e = chain_next slots (next_of slots x) order k n h.1 e
 
 -- the order of slots whose states alone changed
 pub order_stays : (slots : List Slot) (n : ℕ) (state : SlotState) → order_of (with_slot slots n state) ≡ order_of slots
@@ -152,12 +152,12 @@ number_there slots position number h l = h.here ∙ slice_get-get_or (order_of s
 
 -- ---- numbers put into an order
 
-get_left : (xs ys : List Slot) (k : ℕ) → k < length xs → behind_at (xs ++ ys) k ≡ behind_at xs k
+get_left : (xs ys : List Slot) (k : ℕ) → k < length xs → next_of (xs ++ ys) k ≡ next_of xs k
 get_left [] ys k l = absurd (omega (arith, l))
 get_left (x ∷ xs) ys zero l = refl
 get_left (x ∷ xs) ys (suc k) l = get_left xs ys k (omega (arith, l))
 
-get_here : (xs : List Slot) (y : Slot) (ys : List Slot) → behind_at (xs ++ y ∷ ys) (length xs) ≡ y.behind
+get_here : (xs : List Slot) (y : Slot) (ys : List Slot) → next_of (xs ++ y ∷ ys) (length xs) ≡ y.behind
 get_here [] y ys = refl
 get_here (x ∷ xs) y ys = get_here xs y ys
 
@@ -181,7 +181,7 @@ chain_made xs (y ∷ ys) (suc c) behind post l h =
     let moved : IsChain (xs ++ y ∷ ys) (link_to (length xs + 1) c behind) (range_with_len (length xs + 1) c ++ post) =
     subst (λ ss. IsChain ss (link_to (length xs + 1) c behind) (range_with_len (length xs + 1) c ++ post)) all
     (subst (λ n. IsChain ((xs ++ y ∷ []) ++ ys) (link_to n c behind) (range_with_len n c ++ post)) one rest) in
-    let here : behind_at (xs ++ y ∷ ys) (length xs) ≡ link_to (length xs + 1) c behind =
+    let here : next_of (xs ++ y ∷ ys) (length xs) ≡ link_to (length xs + 1) c behind =
     get_here xs y ys ∙ (links.0 ∙ ap (λ n. link_to n c behind) (sym up)) in
     let some : link_to (length xs) (suc c) behind ≡ Some (length xs) =
     ap (λ b. if b then behind else Some (length xs)) (ne_eqb (suc c) 0 (λ e. absurd (omega (arith, e)))) in
@@ -189,19 +189,19 @@ chain_made xs (y ∷ ys) (suc c) behind post l h =
 
 chain_rest : (slots : List Slot) (start : Option ℕ) (pre : List ℕ) (n : ℕ) (post : List ℕ)
     → IsChain slots start (pre ++ n ∷ post)
-    → IsChain slots (behind_at slots n) post
+    → IsChain slots (next_of slots n) post
 chain_rest slots start [] n post h = h.1
-chain_rest slots start (x ∷ pre) n post h = chain_rest slots (behind_at slots x) pre n post h.1
+chain_rest slots start (x ∷ pre) n post h = chain_rest slots (next_of slots x) pre n post h.1
 
 chain_through : (slots others : List Slot) (start : Option ℕ) (pre : List ℕ) (n : ℕ) (post rest : List ℕ)
-    → ((m : ℕ) → IsIn m pre → behind_at others m ≡ behind_at slots m) → IsChain slots start (pre ++ n ∷ post)
-    → IsChain others (behind_at others n) rest
+    → ((m : ℕ) → IsIn m pre → next_of others m ≡ next_of slots m) → IsChain slots start (pre ++ n ∷ post)
+    → IsChain others (next_of others n) rest
     → IsChain others start (pre ++ n ∷ rest)
 chain_through slots others start [] n post rest same h r = (h.0, r)
 chain_through slots others start (x ∷ pre) n post rest same h r = (
   h.0,
   subst (λ s. IsChain others s (pre ++ n ∷ rest)) (sym (same x (inl refl)))
-      (chain_through slots others (behind_at slots x) pre n post rest (λ m i. same m (inr i)) h.1 r),
+      (chain_through slots others (next_of slots x) pre n post rest (λ m i. same m (inr i)) h.1 r),
 )
 
 in_apart : (n m : ℕ) (order : List ℕ) → IsNotIn n order → IsIn m order → ¬ (m ≡ n)
@@ -216,32 +216,32 @@ in_under n m (x ∷ order) a (inr i) = in_under n m order a.1 i
 
 -- the numbers of new slots behind one, which is linked to them
 module _ (slots made : List Slot) (n c : ℕ) (state : SlotState) (pre post : List ℕ) (inside : n < length slots)
-    (size : length (with_slot (with_link slots n (link_to (length slots) c (behind_at slots n))) n state)
+    (size : length (with_slot (with_link slots n (link_to (length slots) c (next_of slots n))) n state)
     ≡ length slots)
     (below_pre : AreBelow (length slots) pre) (below_post : AreBelow (length slots) post) (apart_pre : IsNotIn n pre)
     (apart_post : IsNotIn n post)
-    (links : links_of made ≡ links_from (length slots) c (behind_at slots n)) where
+    (links : links_of made ≡ links_from (length slots) c (next_of slots n)) where
   abbrev front : List Slot
-  front = with_slot (with_link slots n (link_to (length slots) c (behind_at slots n))) n state
+  front = with_slot (with_link slots n (link_to (length slots) c (next_of slots n))) n state
 
   beside : (ns : List ℕ) → AreBelow (length slots) ns → IsNotIn n ns → (m : ℕ) → IsIn m ns
-      → behind_at (front ++ made) m ≡ behind_at slots m
+      → next_of (front ++ made) m ≡ next_of slots m
   beside ns b a m i =
       get_left front made m (subst (λ k. m < k) (sym size) (in_under (length slots) m ns b i))
-      ∙ (link_stays (with_link slots n (link_to (length slots) c (behind_at slots n))) n m state
-      ∙ link_other slots n m (link_to (length slots) c (behind_at slots n)) (in_apart n m ns a i))
+      ∙ (link_stays (with_link slots n (link_to (length slots) c (next_of slots n))) n m state
+      ∙ link_other slots n m (link_to (length slots) c (next_of slots n)) (in_apart n m ns a i))
 
-  own : behind_at (front ++ made) n ≡ link_to (length slots) c (behind_at slots n)
+  own : next_of (front ++ made) n ≡ link_to (length slots) c (next_of slots n)
   own =
       get_left front made n (subst (λ k. n < k) (sym size) inside)
-      ∙ (link_stays (with_link slots n (link_to (length slots) c (behind_at slots n))) n n state
-      ∙ link_same slots n (link_to (length slots) c (behind_at slots n)) inside)
+      ∙ (link_stays (with_link slots n (link_to (length slots) c (next_of slots n))) n n state
+      ∙ link_same slots n (link_to (length slots) c (next_of slots n)) inside)
 
   pub chain_inserted : IsChain slots (Some 0) (pre ++ n ∷ post)
-      → IsChain (with_slot (with_link slots n (link_to (length slots) c (behind_at slots n))) n state ++ made) (Some 0)
+      → IsChain (with_slot (with_link slots n (link_to (length slots) c (next_of slots n))) n state ++ made) (Some 0)
       (pre ++ n ∷ (range_with_len (length slots) c ++ post))
   chain_inserted h =
-      let behind = behind_at slots n in
+      let behind = next_of slots n in
       let old = chain_same slots (front ++ made) behind post (beside post below_post apart_post)
       (chain_rest slots (Some 0) pre n post h) in
       let new : IsChain (front ++ made) (link_to (length slots) c behind) (range_with_len (length slots) c ++ post) =

@@ -8,7 +8,7 @@ use Rattle.std.proofs.lemmas.List.{length-append, length_push, length-map, map-a
 use Rattle.std.proofs.lemmas.List.{drop_more, take_all, take-map, length-reverse}
 use Rattle.std.proofs.lemmas.List.FromFn.{length-range_with_len}
 use Rattle.tree_terms.specs.Trees.{SearchTree, node_at}
-use Rattle.tree_terms.specs.Paths.{Splits, node_told}
+use Rattle.tree_terms.specs.Paths.{Splits, node_view}
 use Rattle.board_terms.specs.declared.Event.{Event}
 use Rattle.board_terms.specs.declared.Event.TheVariants as event
 use Rattle.board_terms.specs.Board.{PlainEntry, SplitEntry, TaskEntry, PlainTask, Out, is_out, out_path, at_first}
@@ -292,7 +292,7 @@ module _ (tree : SearchTree) (budget : ℕ) (slots : List Slot) (order : List �
           omega (arith, d, e, f, h)
 
       module _ (right : IfSome (node_at (Some tree) p)
-          (λ node. node_told node ≡ Splits (plain_token token) own c)) where
+          (λ node. node_view node ≡ Splits (plain_token token) own c)) where
         pub split_step : Divides tree (stored_state slots order short) n
             (stored_state (with_slot slots n (stored.Split token own c) ++ made)
             (take (position + 1) order ++ (range_with_len (length slots) c ++ drop (position + 1) order)) short)
@@ -300,7 +300,7 @@ module _ (tree : SearchTree) (budget : ℕ) (slots : List Slot) (order : List �
             (out_reached tree budget (entries_of slots order) n p out kept.right).there right
           where
             go : (o : Option SearchTree) → node_at (Some tree) p ≡ o → IsSome o
-                → IfSome o (λ node. node_told node ≡ Splits (plain_token token) own c)
+                → IfSome o (λ node. node_view node ≡ Splits (plain_token token) own c)
                 → Divides tree (stored_state slots order short) n
                 (stored_state (with_slot slots n (stored.Split token own c) ++ made)
                 (take (position + 1) order ++ (range_with_len (length slots) c ++ drop (position + 1) order)) short)

@@ -7,7 +7,7 @@ use Rattle.std.specs.Prelude.{slice_get}
 use Rattle.std.proofs.lemmas.List.{drop_more, drop_all, take-append-drop}
 use Rattle.std.proofs.lemmas.Option.{slice_get_read}
 use Rattle.packing_terms.specs.Tokens.{PlainToken}
-use Rattle.tree_terms.specs.Trees.{No, join, Decided, told}
+use Rattle.tree_terms.specs.Trees.{No, join, Decided, under_budget}
 use Rattle.tree_terms.proofs.Told.{told_decided}
 use Rattle.tree_terms.proofs.Joins.{join_nothing}
 use Rattle.board_terms.specs.Board.{PlainEntry}
@@ -69,7 +69,7 @@ tokens_more slots order k slot new had now all b d l is pushed h =
 
 -- a run whose front is all
 pub joined_all : (budget len count : ℕ) (es : List PlainEntry) → IsFront budget es len count false → length es ≤ len
-    → Decided (No (entry_tokens es) count) ≡ told budget (run_of budget es).verdict
+    → Decided (No (entry_tokens es) count) ≡ under_budget budget (run_of budget es).verdict
 joined_all budget len count es f l =
     let at = run_at budget len es f.known.refuted in
     let rest : drop len es ≡ [] = drop_all len es l in
@@ -80,18 +80,18 @@ joined_all budget len count es f l =
     ∙ (ap (λ xs. join (No (entry_tokens (take len es)) (counted (take len es))) (run_of budget xs).verdict) rest
     ∙ (join_nothing (No (entry_tokens (take len es)) (counted (take len es)))
     ∙ ap₂ (λ xs n. No (entry_tokens xs) n) front f.known.sum)) in
-    sym (ap (told budget) verdict ∙ told_decided budget (No (entry_tokens es) count) f.known.within)
+    sym (ap (under_budget budget) verdict ∙ told_decided budget (No (entry_tokens es) count) f.known.within)
 
 -- a run that ends with the entry behind its front
 pub joined_end : (budget len count : ℕ) (es : List PlainEntry) (d : PlainEntry) → IsFront budget es len count true
-    → told budget (join (No (entry_tokens (take len es)) count)
+    → under_budget budget (join (No (entry_tokens (take len es)) count)
     (with_entry budget (get_or es len d) (run_of budget (drop (len + 1) es))).verdict)
-    ≡ told budget (run_of budget es).verdict
+    ≡ under_budget budget (run_of budget es).verdict
 joined_end budget len count es d f =
     let at = run_at budget len es f.known.refuted in
     let here : run_of budget (drop len es) ≡ with_entry budget (get_or es len d) (run_of budget (drop (len + 1) es)) =
     ap (run_of budget) (drop_more es len d (not_all es f.stands)) in
-    ap (told budget) (sym (ap (λ (r : Run). r.verdict) at
+    ap (under_budget budget) (sym (ap (λ (r : Run). r.verdict) at
     ∙ ap₂ (λ n (r : Run). join (No (entry_tokens (take len es)) n) r.verdict) f.known.sum here))
   where
     not_all : (xs : List PlainEntry) → EndsWithFirst budget count (drop len xs) → len < length xs

@@ -1,7 +1,7 @@
 -- What a worker finds of a task, and what handing it in makes of the board.
 use Rattle.std.specs.Prelude.{ℕ, ◌+◌, ◌-◌, ◌*◌, ◌≤◌, ◌<◌, ◌≡◌, ◌⊎◌, List, length, min, IfSome, Some, Result, Ok, Err}
-use Rattle.tree_terms.specs.Trees.{SearchTree, node_at, outcome, told, count_of}
-use Rattle.tree_terms.specs.Paths.{node_told, Leaf, Splits}
+use Rattle.tree_terms.specs.Trees.{SearchTree, node_at, outcome, under_budget, count_of}
+use Rattle.tree_terms.specs.Paths.{node_view, Leaf, Splits}
 use Rattle.board_terms.specs.Board.{BoardState, PlainTask, out_path}
 use Rattle.board_terms.specs.Steps.{BoardStep, AskSplit, AskFinish, NoteShort, IsDone}
 use Rattle.box_instances.specs.declared.NoMemory.{NoMemory}
@@ -24,15 +24,15 @@ ExceedsCap budget depth node = (first_cap budget depth < budget) × (first_cap b
 -- node is told as a leaf
 abbrev pub StaysWhole : ℕ → ℕ → SearchTree → Type 0
 StaysWhole budget depth node =
-    (budget ≤ first_cap budget depth) ⊎ ((count_of (outcome node) ≤ first_cap budget depth) ⊎ (node_told node ≡ Leaf))
+    (budget ≤ first_cap budget depth) ⊎ ((count_of (outcome node) ≤ first_cap budget depth) ⊎ (node_view node ≡ Leaf))
 
 -- What was found of a node is right: its outcome under the budget exactly where no split is called
 -- for, and else its split.
 abbrev pub IsFoundOf : ℕ → ℕ → SearchTree → Found → Type 0
-IsFoundOf budget depth node (Whole found) = (plain_outcome found ≡ told budget (outcome node))
+IsFoundOf budget depth node (Whole found) = (plain_outcome found ≡ under_budget budget (outcome node))
     × StaysWhole budget depth node
 IsFoundOf budget depth node (Pieces token own children) =
-    (node_told node ≡ Splits (plain_token token) own children) × ExceedsCap budget depth node
+    (node_view node ≡ Splits (plain_token token) own children) × ExceedsCap budget depth node
 
 -- the same of the node at a path, at the depth that is the length of the path
 abbrev pub IsFoundAt : SearchTree → ℕ → List ℕ → Found → Type 0

@@ -8,14 +8,14 @@ abbrev pub behind_in : Option Slot → Option ℕ
 behind_in None = None
 behind_in (Some slot) = slot.behind
 
-abbrev pub behind_at : List Slot → ℕ → Option ℕ
-behind_at slots number = behind_in (slice_get slots number)
+abbrev pub next_of : List Slot → ℕ → Option ℕ
+next_of slots number = behind_in (slice_get slots number)
 
 -- the numbers that the links lead through from one on, at most so many
 abbrev pub follow : List Slot → ℕ → Option ℕ → List ℕ
 follow slots zero start = []
 follow slots (suc more) None = []
-follow slots (suc more) (Some number) = number ∷ follow slots more (behind_at slots number)
+follow slots (suc more) (Some number) = number ∷ follow slots more (next_of slots number)
 
 -- the numbers of all entries in prefix order; the root's is 0
 abbrev pub order_of : List Slot → List ℕ
@@ -24,7 +24,7 @@ order_of slots = follow slots (length slots) (Some 0)
 -- the links lead from one on through these numbers, and end there
 abbrev pub IsChain : List Slot → Option ℕ → List ℕ → Type 0
 IsChain slots start [] = start ≡ None
-IsChain slots start (number ∷ numbers) = (start ≡ Some number) × IsChain slots (behind_at slots number) numbers
+IsChain slots start (number ∷ numbers) = (start ≡ Some number) × IsChain slots (next_of slots number) numbers
 
 -- The links lead through the order of all entries and end there, and this is the number at that
 -- position of the order, if there is one.

@@ -1,7 +1,7 @@
 //! The work board.
 ghost use Rattle.std.specs.Prelude.{◌≡◌, ◌+◌, ◌*◌, ◌^◌, ◌≤◌, ◌<◌, IfOk, OnOk, OnErr, IfErr, IfSome, IsTrue, MatchBool, Some, true, false, vec_len, vec_capacity};
-ghost use Rattle.tree_terms.specs.Trees.{node_at, outcome, told};
-ghost use Rattle.tree_terms.specs.Paths.{Splits, node_told, outcome_at, IsReachable};
+ghost use Rattle.tree_terms.specs.Trees.{node_at, outcome, under_budget};
+ghost use Rattle.tree_terms.specs.Paths.{Splits, node_view, outcome_at, IsReachable};
 ghost use Rattle.board_terms.specs.Board.{board_start, out_path};
 ghost use Rattle.board_terms.specs.Runs.{is_board_over, board_joined};
 ghost use Rattle.board_terms.specs.Steps.{AskTask, AskSplit, AskFinish, NoteShort, IsDone, BoardStep};
@@ -12,9 +12,9 @@ ghost use Rattle.proof_tree.specs.Plain.{plain_token};
 ghost use Rattle.work_share.specs.Tasks.{reply_of, IfJob, is_past};
 
 use crate::children::{children_of, put_children};
-use crate::front::{Front, advance};
+use crate::front::{FinishedPrefix, advance};
 use crate::joining::join_run;
-use crate::link::behind_at;
+use crate::link::next_of;
 use crate::slot::{Slot, SlotState, put_state};
 use crate::stack::count_left;
 use crate::task::{Take, Task};
@@ -42,7 +42,7 @@ pub struct Board<'a, T: Tree> {
     slots: Vec<Slot>,
     // The tasks that wait, the leftmost last.
     waiting: Vec<Task>,
-    front: Front,
+    front: FinishedPrefix,
     is_short: bool,
     history: Vec<Event>,
 }
@@ -139,7 +139,7 @@ impl<'a, T: Tree> Board<'a, T> {
             budget,
             slots,
             waiting,
-            front: Front::new(0, 0, false, Some(0)),
+            front: FinishedPrefix::new(0, 0, false, Some(0)),
             is_short: false,
             history,
         })
@@ -202,7 +202,7 @@ impl<'a, T: Tree> Board<'a, T> {
     pub fn split(&mut self, task: Task, token: Token, own: u64, children: u32) -> Result<(), Task>
         requires out { out_path task.number self.old.state.entries ≡ Some task.path }
         requires told { IfSome (node_at (Some (T.shape self.old.tree)) task.path)
-            (λ node. node_told node ≡ Splits (plain_token token) own children) }
+            (λ node. node_view node ≡ Splits (plain_token token) own children) }
         ensures step { OnOk result
             (BoardStep (T.shape self.old.tree) self.old.budget self.old.state (AskSplit task.number)
             IsDone self.new.state) }
@@ -214,7 +214,7 @@ impl<'a, T: Tree> Board<'a, T> {
             return Err(task);
         }
         let number = task.number() as usize;
-        let behind = behind_at(&self.slots, number);
+        let behind = next_of(&self.slots, number);
         let Ok(made) = children_of(self.alloc, task.path(), children, self.slots.len(), behind)
         else {
             return Err(task);
@@ -319,7 +319,7 @@ impl<'a, T: Tree> Board<'a, T> {
         ensures joined { IfOk result
             (λ r. plain_outcome r ≡ board_joined self.entry.budget self.entry.state) }
         ensures outcome { IfOk result
-            (λ r. plain_outcome r ≡ told self.entry.budget (outcome (T.shape self.entry.tree))) }
+            (λ r. plain_outcome r ≡ under_budget self.entry.budget (outcome (T.shape self.entry.tree))) }
     {
         let Board {
             slots,

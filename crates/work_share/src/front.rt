@@ -5,21 +5,21 @@ ghost use Rattle.work_share.specs.Slots.{entry_at, entries_of};
 ghost use Rattle.work_share.specs.Links.{order_of, IsLinked};
 ghost use Rattle.work_share.specs.Fronts.{piece_of, HasFrontTo, IsFront};
 
-use crate::link::behind_at;
+use crate::link::next_of;
 use crate::slot::{Piece, Slot};
 
 // So many entries at the front are finished with no, with this count together, and whether the run
 // ends with the next; and the number of that one, if there is a next.
 #[derive(Clone, Copy)]
-pub(crate) struct Front {
+pub(crate) struct FinishedPrefix {
     pub len: usize,
     pub count: u64,
     pub is_ended: bool,
     pub behind: Option<usize>,
 }
 
-impl Front {
-    pub fn new(len: usize, count: u64, is_ended: bool, behind: Option<usize>) -> Front
+impl FinishedPrefix {
+    pub fn new(len: usize, count: u64, is_ended: bool, behind: Option<usize>) -> FinishedPrefix
         ensures { result ≡ record {
           len = len;
           count = count;
@@ -27,7 +27,7 @@ impl Front {
           behind = behind;
         } }
     {
-        Front {
+        FinishedPrefix {
             len,
             count,
             is_ended,
@@ -45,7 +45,7 @@ fn piece_at(slots: &[Slot], number: usize) -> Piece
 }
 
 // The front, taken on as far as it goes.
-pub(crate) fn advance(slots: &[Slot], budget: u64, front: Front) -> Front
+pub(crate) fn advance(slots: &[Slot], budget: u64, front: FinishedPrefix) -> FinishedPrefix
     requires below { AreBelow (length slots.now) (order_of slots.now) }
     requires size { length slots.now ≡ length (order_of slots.now) }
     requires linked { IsLinked slots.now front.len front.behind }
@@ -63,16 +63,16 @@ pub(crate) fn advance(slots: &[Slot], budget: u64, front: Front) -> Front
     for len in front.len..slots.len() {
         let Some(number) = behind else { unreachable!() };
         let more = match piece_at(slots, number) {
-            Piece::Open => return Front::new(len, count, false, behind),
+            Piece::Open => return FinishedPrefix::new(len, count, false, behind),
             Piece::Refuted(more) => more,
-            Piece::Found => return Front::new(len, count, true, behind),
-            Piece::Spent => return Front::new(len, count, true, behind),
+            Piece::Found => return FinishedPrefix::new(len, count, true, behind),
+            Piece::Spent => return FinishedPrefix::new(len, count, true, behind),
         };
         if more > budget - count {
-            return Front::new(len, count, true, behind);
+            return FinishedPrefix::new(len, count, true, behind);
         }
         count += more;
-        behind = behind_at(slots, number);
+        behind = next_of(slots, number);
     }
-    Front::new(slots.len(), count, false, behind)
+    FinishedPrefix::new(slots.len(), count, false, behind)
 }

@@ -1,7 +1,7 @@
 //! The joining of a finished run.
 ghost use Rattle.std.specs.Prelude.{◌≡◌, ◌≤◌, ◌<◌, ◌++◌, ℕ, List, length, IfOk, OnOk, Some, true, false};
 ghost use Rattle.packing_terms.specs.Tokens.{PlainToken};
-ghost use Rattle.tree_terms.specs.Trees.{No, join, told};
+ghost use Rattle.tree_terms.specs.Trees.{No, join, under_budget};
 ghost use Rattle.board_terms.specs.Kept.{AreBelow, AreDistinct};
 ghost use Rattle.board_terms.specs.Runs.{Run, run_of, with_entry};
 ghost use Rattle.work_share.specs.Outcomes.{plain_outcome};
@@ -10,11 +10,11 @@ ghost use Rattle.work_share.specs.Links.{order_of, IsChain, IsLinked};
 ghost use Rattle.work_share.specs.Fronts.{IsFront, Ends, piece_of};
 ghost use Rattle.work_share.specs.Joining.{tokens_told, tokens_in, entry_tokens};
 
-use crate::front::Front;
-use crate::link::behind_at;
+use crate::front::FinishedPrefix;
+use crate::link::next_of;
 use crate::slot::{Slot, SlotState};
 use box_instances::NoMemory;
-use proof_tree::{Outcome, TokenList};
+use proof_tree::{CompactTokens, Outcome};
 use std::alloc::Global;
 use std::mem;
 
@@ -23,7 +23,7 @@ fn end_run(slot: &mut Slot, budget: u64, before: u64) -> Outcome
     requires within { before ≤ budget }
     requires ends { (number : ℕ) → Ends budget before (piece_of (entry_of number slot.old)) }
     ensures { (number : ℕ) (tokens : List PlainToken) (run : Run)
-        → plain_outcome result ≡ told budget (join (No tokens before)
+        → plain_outcome result ≡ under_budget budget (join (No tokens before)
         (with_entry budget (entry_of number slot.old) run).verdict) }
 {
     match mem::replace(&mut slot.state, SlotState::Out) {
@@ -38,7 +38,7 @@ fn end_run(slot: &mut Slot, budget: u64, before: u64) -> Outcome
 }
 
 // Moves the tokens of an outcome behind others.
-fn push_told(tokens: &mut TokenList, outcome: Outcome) -> Result<(), NoMemory>
+fn push_told(tokens: &mut CompactTokens, outcome: Outcome) -> Result<(), NoMemory>
     ensures { OnOk result (tokens.new ≡ tokens.old ++ tokens_told (plain_outcome outcome)) }
 {
     match outcome {
@@ -55,7 +55,7 @@ fn push_told(tokens: &mut TokenList, outcome: Outcome) -> Result<(), NoMemory>
 }
 
 // Moves the tokens of a finished entry behind others.
-fn push_tokens(tokens: &mut TokenList, slot: &mut Slot) -> Result<(), NoMemory>
+fn push_tokens(tokens: &mut CompactTokens, slot: &mut Slot) -> Result<(), NoMemory>
     ensures tokens { OnOk result ((number : ℕ) → tokens.new
         ≡ tokens.old ++ tokens_in (entry_of number slot.old)) }
     ensures link { slot.new.behind ≡ slot.old.behind }
@@ -73,7 +73,7 @@ fn push_tokens(tokens: &mut TokenList, slot: &mut Slot) -> Result<(), NoMemory>
 }
 
 // The tokens of all entries in their order.
-fn join_tokens(alloc: Global, mut slots: Vec<Slot>) -> Result<TokenList, NoMemory>
+fn join_tokens(alloc: Global, mut slots: Vec<Slot>) -> Result<CompactTokens, NoMemory>
     requires below { AreBelow (length slots.items) (order_of slots.items) }
     requires distinct { AreDistinct (order_of slots.items) }
     requires size { length slots.items ≡ length (order_of slots.items) }
@@ -81,12 +81,12 @@ fn join_tokens(alloc: Global, mut slots: Vec<Slot>) -> Result<TokenList, NoMemor
     ensures { IfOk result (λ tokens. tokens
         ≡ entry_tokens (entries_of slots.items (order_of slots.items))) }
 {
-    let mut tokens = TokenList::new(alloc);
+    let mut tokens = CompactTokens::new(alloc);
     let mut behind = Some(0);
     let len = slots.len();
     for _position in 0..len {
         let Some(number) = behind else { unreachable!() };
-        behind = behind_at(&slots, number);
+        behind = next_of(&slots, number);
         push_tokens(&mut tokens, &mut slots[number])?;
     }
     Ok(tokens)
@@ -97,7 +97,7 @@ pub(crate) fn join_run(
     alloc: Global,
     mut slots: Vec<Slot>,
     budget: u64,
-    front: Front,
+    front: FinishedPrefix,
 ) -> Result<Outcome, NoMemory>
     requires below { AreBelow (length slots.items) (order_of slots.items) }
     requires distinct { AreDistinct (order_of slots.items) }
@@ -107,7 +107,7 @@ pub(crate) fn join_run(
         front.count front.is_ended }
     requires over { front.is_ended ≡ false → front.len ≡ length slots.items }
     ensures { IfOk result (λ r. plain_outcome r
-        ≡ told budget (run_of budget (entries_of slots.items (order_of slots.items))).verdict) }
+        ≡ under_budget budget (run_of budget (entries_of slots.items (order_of slots.items))).verdict) }
 {
     if front.is_ended {
         let Some(number) = front.behind else {

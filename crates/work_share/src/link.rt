@@ -1,6 +1,6 @@
 //! The order of the entries: each is linked to the one behind it in prefix order.
 ghost use Rattle.std.specs.Prelude.{◌≡◌, ◌<◌, length, vec_len, vec_capacity};
-ghost use Rattle.work_share.specs.Links.{link_to, behind_at, with_link};
+ghost use Rattle.work_share.specs.Links.{link_to, next_of, with_link};
 
 use crate::slot::Slot;
 
@@ -12,9 +12,9 @@ pub(crate) fn link_to(number: usize, more: usize, behind: Option<usize>) -> Opti
 }
 
 // The number of the entry behind the one of this number.
-pub(crate) fn behind_at(slots: &[Slot], number: usize) -> Option<usize>
+pub(crate) fn next_of(slots: &[Slot], number: usize) -> Option<usize>
     requires { number < length slots.now }
-    ensures { result ≡ behind_at slots.now number }
+    ensures { result ≡ next_of slots.now number }
 {
     slots[number].behind
 }

@@ -1,6 +1,6 @@
 //! One search tree, explored by several workers.
 ghost use Rattle.std.specs.Prelude.{◌≡◌, IfOk, IfSome, Some};
-ghost use Rattle.tree_terms.specs.Trees.{outcome, told};
+ghost use Rattle.tree_terms.specs.Trees.{outcome, under_budget};
 ghost use Rattle.tree_terms.specs.Paths.{IsReachable};
 ghost use Rattle.board_terms.specs.Board.{out_path};
 ghost use Rattle.board_terms.specs.Steps.{BoardStep, AskTask};
@@ -22,7 +22,7 @@ const MOST_WORKERS: usize = 64;
 
 // What the workers share: the board, and a signal for those that wait that tasks were added or that
 // the board is over.
-struct Desk<'a, T: Tree> {
+struct SharedBoard<'a, T: Tree> {
     board: Mutex<Board<'a, T>>,
     moved: Condvar,
 }
@@ -54,7 +54,7 @@ fn put_found<T: Tree>(board: &mut Board<'_, T>, task: Task, found: Found)
 // Hands in what a worker found of a task, or that it was short of memory. Nothing is known of the
 // board that the worker finds: where it isn't for the worker's tree and budget, or the task isn't
 // out, what was found is dropped.
-fn hand_in<T: Tree>(
+fn submit<T: Tree>(
     board: &mut Board<'_, T>,
     tree: &T,
     budget: u64,
@@ -115,7 +115,12 @@ fn explore_between<T: Tree, G: Gate>(
 // The next task. None comes where there is nothing left to do, and where the board isn't for this
 // tree and budget. Where no task waits, but the board isn't over, the worker sleeps until it is
 // woken.
-fn next_task<R: Wait, T: Tree>(rt: &R, tree: &T, budget: u64, desk: &Desk<'_, T>) -> Option<Task>
+fn next_task<R: Wait, T: Tree>(
+    rt: &R,
+    tree: &T,
+    budget: u64,
+    desk: &SharedBoard<'_, T>,
+) -> Option<Task>
     ensures { IfSome result (λ task. IsReachable (T.shape tree.now) task.path) }
 {
     let mut board = desk.board.lock(rt);
@@ -131,11 +136,11 @@ fn next_task<R: Wait, T: Tree>(rt: &R, tree: &T, budget: u64, desk: &Desk<'_, T>
 
 // Takes the lock and hands in what was found. Answers whether those that wait have a reason to look
 // again: tasks may have been added, or nothing is left to do.
-fn hand_back<R: Wait, T: Tree>(
+fn submit_and_wake<R: Wait, T: Tree>(
     rt: &R,
     tree: &T,
     budget: u64,
-    desk: &Desk<'_, T>,
+    desk: &SharedBoard<'_, T>,
     task: Task,
     found: Result<Found, NoMemory>,
 ) -> bool
@@ -143,7 +148,7 @@ fn hand_back<R: Wait, T: Tree>(
 {
     let has_pieces = matches!(found, Ok(Found::Pieces { .. }));
     let mut board = desk.board.lock(rt);
-    hand_in(&mut board, tree, budget, task, found);
+    submit(&mut board, tree, budget, task, found);
     has_pieces || board.is_over()
 }
 
@@ -154,7 +159,7 @@ fn work<R: Wait, T: Tree, G: Gate>(
     alloc: Global,
     tree: &T,
     budget: u64,
-    desk: &Desk<'_, T>,
+    desk: &SharedBoard<'_, T>,
     gate: &G,
 ) {
     for _ in rt.forever() {
@@ -162,7 +167,7 @@ fn work<R: Wait, T: Tree, G: Gate>(
             return;
         };
         let found = explore_between(alloc, tree, budget, gate, &task);
-        if hand_back(rt, tree, budget, desk, task, found) {
+        if submit_and_wake(rt, tree, budget, desk, task, found) {
             desk.moved.notify_all();
         }
     }
@@ -178,7 +183,7 @@ fn explore_root<T: Tree, G: Gate>(
 ) {
     if let Take::Job(task) = take_from(board, tree, budget) {
         let found = explore_between(alloc, tree, budget, gate, &task);
-        hand_in(board, tree, budget, task, found);
+        submit(board, tree, budget, task, found);
     }
 }
 
@@ -191,7 +196,7 @@ fn work_together<'a, R: Threads + Wait + Sync, T: Tree + Sync, G: Gate + Sync>(
     gate: &G,
     board: Board<'a, T>,
 ) -> Board<'a, T> {
-    let desk = Desk {
+    let desk = SharedBoard {
         board: Mutex::new(board),
         moved: Condvar::new(),
     };
@@ -203,7 +208,7 @@ fn work_together<'a, R: Threads + Wait + Sync, T: Tree + Sync, G: Gate + Sync>(
         workers,
         &|_, _| { work(rt, alloc, tree, settings.budget, &desk, gate) },
     );
-    let Desk { board, moved: _ } = desk;
+    let SharedBoard { board, moved: _ } = desk;
     board.into_inner()
 }
 
@@ -215,7 +220,7 @@ fn answer_of<T: Tree>(
     budget: u64,
     board: Board<'_, T>,
 ) -> Result<Outcome, NoMemory>
-    ensures { IfOk result (λ r. plain_outcome r ≡ told budget (outcome (T.shape tree.now))) }
+    ensures { IfOk result (λ r. plain_outcome r ≡ under_budget budget (outcome (T.shape tree.now))) }
 {
     let has_answer = board.is_for(tree, budget) && board.is_over();
     if !has_answer {
@@ -248,7 +253,7 @@ pub fn solve_shared<R: Threads + Wait + Sync, T: Tree + Sync, G: Gate + Sync>(
     gate: &G,
 ) -> Result<Outcome, NoMemory>
     ensures { IfOk result (λ r. plain_outcome r
-        ≡ told settings.now.budget (outcome (T.shape tree.now))) }
+        ≡ under_budget settings.now.budget (outcome (T.shape tree.now))) }
 {
     if settings.workers <= 1 {
         return tree.explore(alloc, &[], settings.budget);

@@ -1,7 +1,7 @@
 //! A search tree with a place where memory is short.
 ghost use Rattle.std.specs.Prelude.{◌≡◌, ◌++◌, ℕ, List, IfOk, IfSome, IsErr, MatchBool, Some};
-ghost use Rattle.tree_terms.specs.Trees.{node_at, told};
-ghost use Rattle.tree_terms.specs.Paths.{node_told, outcome_at, IsReachable};
+ghost use Rattle.tree_terms.specs.Trees.{node_at, under_budget};
+ghost use Rattle.tree_terms.specs.Paths.{node_view, outcome_at, IsReachable};
 ghost use Rattle.work_share.specs.Outcomes.{plain_outcome};
 ghost use Rattle.work_share.specs.Nodes.{plain_node};
 
@@ -50,7 +50,7 @@ impl<'a, T: Tree> Tree for ShortTree<'a, T> {
         requires { IsReachable (T.shape self.now.tree) path.now }
         ensures outcome { IfOk result
             (λ r. IfSome (outcome_at (T.shape self.now.tree) path.now)
-            (λ v. plain_outcome r ≡ told cap v)) }
+            (λ v. plain_outcome r ≡ under_budget cap v)) }
         ensures short { (rest : List ℕ) → path.now ≡ self.now.path ++ rest
             → IsErr result }
     {
@@ -63,7 +63,7 @@ impl<'a, T: Tree> Tree for ShortTree<'a, T> {
     fn node(&self, alloc: Global, path: &[u32]) -> Result<Node, NoMemory>
         requires { IsReachable (T.shape self.now.tree) path.now }
         ensures { IfOk result (λ r. IfSome (node_at (Some (T.shape self.now.tree)) path.now)
-            (λ node. plain_node r ≡ node_told node)) }
+            (λ node. plain_node r ≡ node_view node)) }
     {
         self.tree.node(alloc, path)
     }

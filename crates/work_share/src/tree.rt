@@ -1,7 +1,7 @@
 //! The search trees that are explored.
 ghost use Rattle.std.specs.Prelude.{◌≡◌, IfOk, IfSome, MatchBool, Some};
-ghost use Rattle.tree_terms.specs.Trees.{SearchTree, told, node_at};
-ghost use Rattle.tree_terms.specs.Paths.{node_told, outcome_at, IsReachable};
+ghost use Rattle.tree_terms.specs.Trees.{SearchTree, under_budget, node_at};
+ghost use Rattle.tree_terms.specs.Paths.{node_view, outcome_at, IsReachable};
 ghost use Rattle.work_share.specs.Outcomes.{plain_outcome};
 ghost use Rattle.work_share.specs.Nodes.{plain_node};
 
@@ -41,7 +41,7 @@ pub trait Tree {
     fn explore(&self, alloc: Global, path: &[u32], cap: u64) -> Result<Outcome, NoMemory>
         requires { IsReachable (shape self.now) path.now }
         ensures { IfOk result (λ r. IfSome (outcome_at (shape self.now) path.now)
-            (λ v. plain_outcome r ≡ told cap v)) };
+            (λ v. plain_outcome r ≡ under_budget cap v)) };
 
     /// Whether the node at a path is a split, with its token, its own count and the number of its
     /// children, or a leaf: it is settled, refuted, or its own count is greater than 10,000,000.
@@ -49,7 +49,7 @@ pub trait Tree {
     fn node(&self, alloc: Global, path: &[u32]) -> Result<Node, NoMemory>
         requires { IsReachable (shape self.now) path.now }
         ensures { IfOk result (λ r. IfSome (node_at (Some (shape self.now)) path.now)
-            (λ node. plain_node r ≡ node_told node)) };
+            (λ node. plain_node r ≡ node_view node)) };
 
     /// Whether both trees were made from equal parts.
     fn same(&self, other: &Self) -> bool

@@ -9,11 +9,11 @@ returns-then-b-bins-clause-child c =
     = c.as_slice.ensures.value ∙ (ap (λ (x : Vec ℕ Global). x.items) c.index-bins-b.is
     ∙ sym (get_or-map (λ (x : Vec ℕ Global). x.items) c.args.bins.now c.args.b c.index-bins-b.result []
     (omega (arith, c.if-b-bins.true)))) in
-    rw bin at c.grow.ensures.child
+    rw bin at c.decide_with_box.ensures.child
 
 pub returns-else-b-bins-clause-child : goal.returns-else-b-bins-clause-child
 returns-else-b-bins-clause-child c =
     let many = length-map c.args.bins.now (λ (x : Vec ℕ Global). x.items) in
     let none : get_or (lists_of c.args.bins.now) c.args.b [] ≡ []
     = get_or_past (lists_of c.args.bins.now) c.args.b [] (omega (arith, many, c.if-b-bins.false)) in
-    rw none c.grow-else-b-bins.ensures.child
+    rw none c.decide_with_box-else-b-bins.ensures.child

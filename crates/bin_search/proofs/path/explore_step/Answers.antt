@@ -2,7 +2,7 @@ use Rattle.std.proofs.Common.{◌≡◌, ℕ, suc, ◌+◌, ◌++◌, ap, subst,
 use Rattle.std.proofs.lemmas.List.{length-map}
 use Rattle.packing_terms.specs.Tokens.{PlainToken}
 use Rattle.packing_terms.specs.Tokens.PlainToken.{SetRefuted}
-use Rattle.tree_terms.specs.Trees.{SearchTree, Decided, No, outcome, told}
+use Rattle.tree_terms.specs.Trees.{SearchTree, Decided, No, outcome, under_budget}
 use Rattle.work_share.specs.Outcomes.{plain_outcome}
 use Rattle.bin_search.specs.Lists.{lists_of}
 use Rattle.bin_search.specs.Trees.{PlainBinTree}
@@ -110,6 +110,6 @@ returns-in_ok-replace_list-in-Fits c =
     at c.in_ok-answers-in-Fits.ensures.answers in
     let g = c.in_ok-answers-in-Fits.ensures.same ∙ c.in_ok-grow_bin.ensures.same in
     let k = rw (g, e, f) at c.enter.ensures.outcome in
-    subst (λ (x : SearchTree). IfOk c.enter.result (λ r. plain_outcome r ≡ told c.args.cap (outcome x)))
+    subst (λ (x : SearchTree). IfOk c.enter.result (λ r. plain_outcome r ≡ under_budget c.args.cap (outcome x)))
     (step_fits t c.requires.limits c.args.step.placed (lists_of c.args.step.bins.items) c.requires.above
     c.args.step.child c.requires.near c.in-Fits.numbers.items h.cost c.in-Fits.own h.is h.counted) k

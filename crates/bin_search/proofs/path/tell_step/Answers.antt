@@ -1,7 +1,7 @@
 use Rattle.std.proofs.Common.{ℕ, ap, ◌∙◌, arith, length, Vec, Global}
 use Rattle.std.proofs.lemmas.List.{length-map}
 use Rattle.tree_terms.specs.OuterTrees.{with_answer}
-use Rattle.tree_terms.specs.Paths.{node_told}
+use Rattle.tree_terms.specs.Paths.{node_view}
 use Rattle.bin_search.specs.Lists.{lists_of}
 use Rattle.bin_search.specs.Trees.{PlainBinTree}
 use Rattle.bin_search.specs.Paths.{answers_of}
@@ -76,5 +76,5 @@ returns-in_ok-replace_list-in-Fits c =
     let k = rw (c.deref-in-Fits.ensures.value, e) at c.tell.ensures c.args.search.now.scales
     (with_answer (answers_of c.args.instance.now c.args.search.now.scales (lists_of c.args.step.bins.items))
     c.args.step.child c.in-Fits._numbers.items) in
-    k ∙ ap node_told (step_fits t c.requires.limits c.args.step.placed (lists_of c.args.step.bins.items)
+    k ∙ ap node_view (step_fits t c.requires.limits c.args.step.placed (lists_of c.args.step.bins.items)
     c.requires.above c.args.step.child c.requires.near c.in-Fits._numbers.items h.cost c.in-Fits.own h.is h.counted)

@@ -10,18 +10,18 @@ less_rise (No tokens cost) left l = omega (arith, l)
 
 pub returns-in-Past-clause-opened : goal.returns-in-Past-clause-opened
 returns-in-Past-clause-opened c =
-    let h = rw (c.deref.ensures.value, c.in-Past.is) at c.in_ok-grow.ensures.child in
+    let h = rw (c.deref.ensures.value, c.in-Past.is) at c.in_ok-decide_with_box.ensures.child in
     less_rise _ _ h.0
 
 pub returns-then-own-left-clause-opened : goal.returns-then-own-left-clause-opened
 returns-then-own-left-clause-opened c =
-    let h = rw (c.deref.ensures.value, c.in-Refuted.is) at c.in_ok-grow.ensures.child in
+    let h = rw (c.deref.ensures.value, c.in-Refuted.is) at c.in_ok-decide_with_box.ensures.child in
     let k = h.counted in
     rw h.is (omega (arith, k, c.if-own-left.true))
 
 pub returns-else-own-left-clause-opened : goal.returns-else-own-left-clause-opened
 returns-else-own-left-clause-opened c =
-    let h = rw (c.deref.ensures.value, c.in-Refuted.is) at c.in_ok-grow.ensures.child in
+    let h = rw (c.deref.ensures.value, c.in-Refuted.is) at c.in_ok-decide_with_box.ensures.child in
     let k = h.counted in
     let l = h.within in
     record {
@@ -35,5 +35,5 @@ returns-else-own-left-clause-opened c =
 
 pub returns-in-Fits-clause-opened : goal.returns-in-Fits-clause-opened
 returns-in-Fits-clause-opened c =
-    let h = rw (c.deref.ensures.value, c.in-Fits.is) at c.in_ok-grow.ensures.child in
+    let h = rw (c.deref.ensures.value, c.in-Fits.is) at c.in_ok-decide_with_box.ensures.child in
     (record { decided = refl; fits = h.0 }, h.1)

@@ -1,5 +1,5 @@
 use Rattle.std.proofs.Common.{◌≡◌, ◌+◌, ◌∷◌, ◌++◌, ℕ, List, None, sym, ap, subst, ◌∙◌, IfOk}
-use Rattle.tree_terms.specs.Trees.{SearchTree, Decided, No, outcome, told}
+use Rattle.tree_terms.specs.Trees.{SearchTree, Decided, No, outcome, under_budget}
 use Rattle.packing_terms.specs.Tokens.{PlainToken}
 use Rattle.packing_terms.specs.Tokens.PlainToken.{SetRefuted}
 use Rattle.work_share.specs.Outcomes.{plain_outcome}
@@ -8,8 +8,8 @@ use Rattle.choice_search.specs.Choices.{PlainChoiceTree, IsChosen}
 use Rattle.choice_search.proofs.Children.{first_set, first_chosen, first_past, first_refuted, first_fits}
 use Rattle.choice_search.proofs.path.explore_first.Goals as goal
 
-pub grow-requires : goal.grow-requires
-grow-requires c =
+pub decide_with_box-requires : goal.decide_with_box-requires
+decide_with_box-requires c =
     let t : PlainChoiceTree = record {
       instance = c.args.instance.now;
       goal = c.args.value;
@@ -26,7 +26,7 @@ returns-in-Past c =
       scales = c.args.search.now.scales;
     } in
     let past = rw (c.requires.search, c.requires.order, c.deref.ensures.value, c.in-Past.is)
-    at c.in_ok-grow.ensures.child in
+    at c.in_ok-decide_with_box.ensures.child in
     let h = past.0 in
     first_past t c.args.above.decided c.args.above.taken.items c.requires.above c.args.cap h
 
@@ -38,7 +38,7 @@ returns-in-Refuted c =
       scales = c.args.search.now.scales;
     } in
     let h = rw (c.requires.search, c.requires.order, c.deref.ensures.value, c.in-Refuted.is)
-    at c.in_ok-grow.ensures.child in
+    at c.in_ok-decide_with_box.ensures.child in
     let e = h.appended
     ∙ ap (λ (l : List PlainToken). l ++ SetRefuted None ∷ h.tokens) c.new-tokens.ensures in
     ap (λ (l : List PlainToken). Decided (No l c.in-Refuted.own)) e
@@ -53,7 +53,7 @@ walk-requires-clause-node c =
       scales = c.args.search.now.scales;
     } in
     let fits = rw (c.requires.search, c.requires.order, c.deref.ensures.value, c.in-Fits.is)
-    at c.in_ok-grow.ensures.child in
+    at c.in_ok-decide_with_box.ensures.child in
     let h = fits.0 in
     subst (λ (us : List ℕ). IsChosen c.args.instance.now (c.args.above.decided + 1) us c.in-Fits.numbers.items)
     (sym h.same)
@@ -68,9 +68,9 @@ returns c =
       scales = c.args.search.now.scales;
     } in
     let fits = rw (c.requires.search, c.requires.order, c.deref.ensures.value, c.in-Fits.is)
-    at c.in_ok-grow.ensures.child in
+    at c.in_ok-decide_with_box.ensures.child in
     let h = fits.0 in
-    let k = rw (c.in_ok-grow.ensures.same, h.same) at c.walk.ensures.outcome in
-    subst (λ (x : SearchTree). IfOk c.walk.result (λ r. plain_outcome r ≡ told c.args.cap (outcome x)))
+    let k = rw (c.in_ok-decide_with_box.ensures.same, h.same) at c.walk.ensures.outcome in
+    subst (λ (x : SearchTree). IfOk c.walk.result (λ r. plain_outcome r ≡ under_budget c.args.cap (outcome x)))
     (first_fits t c.args.above.decided c.args.above.taken.items c.requires.above c.in-Fits.numbers.items h.cost
     c.in-Fits.own h.is h.counted) k

@@ -1,6 +1,6 @@
 use Rattle.std.proofs.Common.{◌≡◌, [], subst, IfOk}
 use Rattle.std.proofs.lemmas.Result.{IfOk-weaker}
-use Rattle.tree_terms.specs.Trees.{outcome, told}
+use Rattle.tree_terms.specs.Trees.{outcome, under_budget}
 use Rattle.work_share.specs.Outcomes.{plain_outcome}
 use Rattle.class_search.specs.Tree.{PlainClassTree, shape}
 use Rattle.class_search.proofs.Rights.{class_right, class_decides, class_told}
@@ -9,7 +9,7 @@ use Rattle.class_search.proofs.decision.decide.Goals as goal
 pub returns-clause-outcome : goal.returns-clause-outcome
 returns-clause-outcome g c =
     subst (λ (t : PlainClassTree). IfOk c.solve.result
-    (λ r. plain_outcome r ≡ told c.args.settings.now.budget (outcome (shape t))))
+    (λ r. plain_outcome r ≡ under_budget c.args.settings.now.budget (outcome (shape t))))
     c.in_ok-tree.ensures c.solve.ensures
 
 pub returns-clause-right : goal.returns-clause-right

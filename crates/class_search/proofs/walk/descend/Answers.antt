@@ -27,6 +27,6 @@ loop-number-preserved c =
       known = met.met.known;
       same_dims = ap (λ (s : PlainEdges). s.dims) met.sizes ∙ c.loop-number.invariant.same_dims;
       same_boxes = ap (λ (s : PlainEdges). s.boxes) met.sizes ∙ c.loop-number.invariant.same_boxes;
-      same_room = ap (λ (s : PlainEdges). s.room) met.sizes ∙ c.loop-number.invariant.same_room;
+      same_box_capacity = ap (λ (s : PlainEdges). s.room) met.sizes ∙ c.loop-number.invariant.same_box_capacity;
       same_closer = met.closer ∙ c.loop-number.invariant.same_closer;
     }

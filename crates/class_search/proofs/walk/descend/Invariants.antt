@@ -10,6 +10,6 @@ invariant-loop-number l = record {
   known : IsKind l.search.instance.now l.state.trail l.node;
   same_dims : l.state.dims ≡ l.fn.state.dims;
   same_boxes : l.state.boxes ≡ l.fn.state.boxes;
-  same_room : l.state.room ≡ l.fn.state.room;
+  same_box_capacity : l.state.room ≡ l.fn.state.room;
   same_closer : l.closer ≡ l.fn.closer;
 }

@@ -23,7 +23,7 @@ group_reason-requires-clause-few c =
     subst (All (λ v. v < 128)) (sym (c.deref-3.ensures.value ∙ c.in_ok-boxes_in.ensures))
     (λ k d l.
     let a = (bin_set c.args.instance.now c.args.bins.now c.args.bin c.requires.count).there k d l in
-    let b = c.len-most_boxes.ensures.limits in
+    let b = c.len-max_boxes.ensures.limits in
     omega (arith, a, b))
 
 pub group_reason-requires-clause-places : goal.group_reason-requires-clause-places

@@ -14,13 +14,13 @@ loop-v-preserved g c =
     let R = Leads (excludes c.args.state.now.trail) c.args.dim Forwards in
     let i = c.loop-v.invariant in
     let v = c.loop-v.v in
-    let row = row_has c.leads_row-row.result in
+    let row = row_has c.successor_row-row.result in
     let hv : v < n = omega (arith, c.loop-v-test.true, c.len-v-end.ensures.value) in
     record {
       none = λ u x l hx. below_next v (λ u. row_has c.with_if_any-ahead.result u ≡ false → (u ≡ x → ⊥) → R u x → ⊥)
           (λ u l off. i.none u x l hx (c.with_if_any-ahead.ensures.off u off).0)
           (λ off ne lead. true≢false (sym (row_of n R v x (row x) c.requires.ordered.one_way hv hx ne lead
-          (λ none lead. c.leads_row-row.ensures.others x (rw c.requires.ordered.same_boxes hx) ne none lead))
+          (λ none lead. c.successor_row-row.ensures.others x (rw c.requires.ordered.same_boxes hx) ne none lead))
           ∙ (c.with_if_any-ahead.ensures.off v off).1 refl x)) u l;
       within = λ u h. there u (c.with_if_any-ahead.ensures.on u h);
     }

@@ -21,7 +21,7 @@ loop-v-preserved g c =
     let R = Leads (excludes c.args.state.now.trail) c.args.dim Forwards in
     let i = c.loop-v.invariant in
     let v = c.in-Some.v in
-    let row = c.leads_row.result in
+    let row = c.successor_row.result in
     let hv : v < n = rw (← c.requires.ordered.same_boxes) (i.within v c.in-Some.ensures.least.there) in
     let there : v < length c.loop-v.rows = omega (arith, hv, i.count, c.requires.count) in
     record {
@@ -29,10 +29,10 @@ loop-v-preserved g c =
       within = λ u on. i.within u (left_part (row_has c.loop-v.rest) (row_has c.without-rest.result) v
           c.without-rest.ensures u on);
       old = λ u x hu. row_set c.loop-v.rows v row (λ z r. row_has r x ≡ true → R z x) there
-          (λ on. (c.leads_row.ensures.leads x on).1) u (λ ne. i.old u x hu);
+          (λ on. (c.successor_row.ensures.leads x on).1) u (λ ne. i.old u x hu);
       new = λ u x hu hx off. row_set c.loop-v.rows v row (λ z r. (z ≡ x → ⊥) → R z x → row_has r x ≡ true) there
           (λ ne lead. row_of n R v x (row_has row x) c.requires.ordered.one_way hv hx ne lead
-          (λ none lead. c.leads_row.ensures.others x (rw c.requires.ordered.same_boxes hx) ne none lead))
+          (λ none lead. c.successor_row.ensures.others x (rw c.requires.ordered.same_boxes hx) ne none lead))
           u (λ ne. i.new u x hu hx (off_left (row_has c.loop-v.rest) (row_has c.without-rest.result) v
           c.without-rest.ensures u ne off));
     }

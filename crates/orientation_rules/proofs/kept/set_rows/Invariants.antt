@@ -4,7 +4,7 @@ use Rattle.packing_terms.specs.Exclusions.{excludes}
 use Rattle.edge_state.specs.BitRows.{row_has, members_below}
 use Rattle.rule_terms.specs.declared.Direction.TheVariants.{Forwards}
 use Rattle.rule_terms.specs.Runs.{Leads}
-use Rattle.orientation_rules.specs.KeptWeights.{GoesOn}
+use Rattle.orientation_rules.specs.CachedChainWeights.{GoesOn}
 use Rattle.orientation_rules.proofs.kept.set_rows.Given as goal
 
 abbrev pub invariant-loop-v : goal.invariant-loop-v

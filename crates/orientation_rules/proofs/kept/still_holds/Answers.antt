@@ -5,7 +5,7 @@ use Rattle.packing_terms.specs.Exclusions.{excludes}
 use Rattle.edge_state.specs.BitRows.{row_has}
 use Rattle.rule_terms.specs.declared.Direction.TheVariants.{Forwards}
 use Rattle.rule_terms.specs.Runs.{Leads}
-use Rattle.orientation_rules.specs.KeptWeights.{GoesOn}
+use Rattle.orientation_rules.specs.CachedChainWeights.{GoesOn}
 use Rattle.orientation_rules.proofs.KeptRuns.{below_next, row_of, get_any}
 use Rattle.orientation_rules.proofs.kept.still_holds.Goals as goal
 
@@ -20,15 +20,15 @@ loop-v-preserved g c =
     let there : v < length rows = omega (arith, hv, c.requires.rows) in
     let same : slice_index_or rows v [] ≡ c.index-rows-at.result = get_any rows v [] _ there ∙ sym c.index-rows-at.is in
     let kept = row_has c.index-rows-at.result in
-    let now = row_has c.leads_row-now.result in
+    let now = row_has c.successor_row-now.result in
     let on = λ (x : ℕ) (hx : x < n) (ne : v ≡ x → ⊥) (lead : R v x). row_of n R v x (now x) c.requires.ordered.one_way
     hv hx ne lead
-    (λ off lead. c.leads_row-now.ensures.others x (rw c.requires.ordered.same_boxes hx) ne off lead) in
+    (λ off lead. c.successor_row-now.ensures.others x (rw c.requires.ordered.same_boxes hx) ne off lead) in
     record {
       sides = below_next v (λ u. slice_index c.args.sides.now u ≡ side c.args.instance.now u c.args.dim) i.sides
           (omega (arith, c.if-sides-at.false, c.from.ensures, c.side.ensures));
       old = λ u x l. below_next v (λ u. GoesOn rows u x → R u x) (λ u l. i.old u x l)
-          (λ g. (c.leads_row-now.ensures.leads x (c.if-not-add_changed.ensures.held refl x (rw same at g))).1) u l;
+          (λ g. (c.successor_row-now.ensures.leads x (c.if-not-add_changed.ensures.held refl x (rw same at g))).1) u l;
       first = λ u x l hx. below_next v
           (λ u. row_has c.add_changed.new.ahead u ≡ false → (u ≡ x → ⊥) → R u x → GoesOn rows u x)
           (λ u l off. i.first u x l hx (c.add_changed.ensures.off u off).0)

@@ -1,5 +1,5 @@
 use Rattle.std.proofs.Common.{◌≡◌, ◌<◌, ℕ, length}
-use Rattle.orientation_rules.specs.KeptWeights.{GoesOn}
+use Rattle.orientation_rules.specs.CachedChainWeights.{GoesOn}
 use Rattle.orientation_rules.proofs.refills.clear_rows.Given as goal
 
 abbrev pub invariant-loop-at : goal.invariant-loop-at

@@ -1,7 +1,7 @@
 use Rattle.std.proofs.Common.{◌≡◌, ◌<◌, ◌∙◌, [], true, false, length, slice_index_or, arith, sym}
 use Rattle.std.proofs.lemmas.List.{length-set, get_or-set_other}
 use Rattle.edge_state.specs.BitRows.{row_has}
-use Rattle.orientation_rules.specs.KeptWeights.{GoesOn}
+use Rattle.orientation_rules.specs.CachedChainWeights.{GoesOn}
 use Rattle.orientation_rules.proofs.KeptRuns.{row_set, less_than, get_any, minus_parts}
 use Rattle.orientation_rules.proofs.refills.drop_members.Goals as goal
 

@@ -1,6 +1,6 @@
 use Rattle.std.proofs.Common.{◌≡◌, ◌<◌, ◌≤◌, ℕ, false, length, slice_index_or, []}
 use Rattle.edge_state.specs.BitRows.{row_has}
-use Rattle.orientation_rules.specs.KeptWeights.{GoesOn}
+use Rattle.orientation_rules.specs.CachedChainWeights.{GoesOn}
 use Rattle.orientation_rules.proofs.refills.drop_members.Given as goal
 
 abbrev pub invariant-loop-at : goal.invariant-loop-at

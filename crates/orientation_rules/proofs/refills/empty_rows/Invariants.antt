@@ -1,6 +1,6 @@
 use Rattle.std.proofs.Common.{◌≡◌, ◌*◌, ◌<◌, ℕ, false, length}
 use Rattle.edge_state.specs.BitRows.{row_has, members_below}
-use Rattle.orientation_rules.specs.KeptWeights.{GoesOn}
+use Rattle.orientation_rules.specs.CachedChainWeights.{GoesOn}
 use Rattle.orientation_rules.proofs.refills.empty_rows.Given as goal
 
 abbrev pub invariant-loop-u : goal.invariant-loop-u

@@ -5,7 +5,7 @@ use Rattle.tree_terms.specs.Levels.{PlainLevel}
 use Rattle.tree_terms.specs.OuterSearch.{AreBinNumbers}
 use Rattle.tree_terms.proofs.OuterDecisions.{bin_tree_right}
 use Rattle.level_search.specs.Runs.{plain_level}
-use Rattle.level_bounds.specs.Bounds.{PlainBounds, plain_bounds, asked_left}
+use Rattle.level_bounds.specs.Bounds.{PlainBounds, plain_bounds, levels_left}
 use Rattle.level_bounds.proofs.Narrowing.{step}
 use Rattle.proposed_answers.specs.Counts.{IsPastCount, IsBinsAnswer, AreBinBounds}
 use Rattle.proposed_answers.proofs.BinsAnswered.{bins_answered}
@@ -29,7 +29,7 @@ loop-level-preserved g c = record {
 
 pub loop-level-smaller : goal.loop-level-smaller
 loop-level-smaller g c =
-    subst (λ (b : PlainBounds). asked_left b < asked_left (plain_bounds c.loop-level.bounds))
+    subst (λ (b : PlainBounds). levels_left b < levels_left (plain_bounds c.loop-level.bounds))
     (sym c.after-bounds.ensures)
     (step (AreBinNumbers c.args.instance.now) (IsBinRefutation c.args.instance.now)
     (IsPastCount c.args.instance.now c.args.settings.now) (box_count c.args.instance.now)

@@ -1,5 +1,5 @@
 use Rattle.std.proofs.Common.{◌≡◌}
-use Rattle.level_bounds.specs.Bounds.{plain_bounds, asked_left}
+use Rattle.level_bounds.specs.Bounds.{plain_bounds, levels_left}
 use Rattle.proposed_answers.specs.Counts.{AreBinBounds}
 use Rattle.proposed_answers.proofs.counts.narrow_bins.Given as goal
 
@@ -10,4 +10,4 @@ invariant-loop-level g l = record {
 }
 
 abbrev pub decreases-loop-level : goal.decreases-loop-level
-decreases-loop-level g l = asked_left (plain_bounds l.bounds)
+decreases-loop-level g l = levels_left (plain_bounds l.bounds)

@@ -1,7 +1,7 @@
 use Rattle.std.proofs.Common.{◌<◌, ℕ, arith, rules}
 use Rattle.packing_terms.specs.Packing.{box_count}
 use Rattle.edge_state.specs.BitRows.{row_has}
-use Rattle.closure_terms.specs.Passes.{IsShut}
+use Rattle.closure_terms.specs.Passes.{IsChainChecked}
 use Rattle.closure_terms.proofs.Passes.{pass_none}
 use Rattle.rule_passes.proofs.ChainRows.{shut_off, member, chain_row, empty_row}
 use Rattle.rule_passes.proofs.chains.shut_from.Goals as goal
@@ -9,7 +9,7 @@ use Rattle.rule_passes.proofs.chains.shut_from.Goals as goal
 pub returns-then-is_empty-clause-pass : goal.returns-then-is_empty-clause-pass
 returns-then-is_empty-clause-pass g c =
     pass_none _ _ (λ es. (v : ℕ) → v < box_count c.args.instance.now
-    → IsShut c.args.instance.now c.args.dim c.args.kept.now.weights.head c.args.kept.now.weights.tail c.args.u v es)
+    → IsChainChecked c.args.instance.now c.args.dim c.args.kept.now.weights.head c.args.kept.now.weights.tail c.args.u v es)
     (λ v small. shut_off c.args.instance.now c.args.dim c.args.state.now.boxes c.args.kept.now.weights.limit
     c.args.kept.now.weights.head c.args.kept.now.weights.tail c.args.u v c.args.state.now.trail _ _
     (rw c.requires.sizes.same_boxes small) c.requires.limit (c.row_in-before.ensures v)

@@ -1,6 +1,6 @@
 use Rattle.std.proofs.Common.{arith, ◌<◌, ◌∙◌, length}
 use Rattle.std.proofs.lemmas.List.{length-set}
-use Rattle.orientation_rules.specs.KeptWeights.{PlainLevels}
+use Rattle.orientation_rules.specs.CachedChainWeights.{PlainLevels}
 use Rattle.rule_passes.proofs.Levels.{each_set}
 use Rattle.rule_passes.proofs.closing.finish_each.Goals as goal
 

@@ -2,15 +2,15 @@ use Rattle.std.proofs.Common.{◌*◌, ◌≡◌, ◌<◌, ℕ, true, false}
 use Rattle.packing_terms.specs.Packing.{box_count}
 use Rattle.packing_terms.specs.Exclusions.{excludes}
 use Rattle.edge_state.specs.BitRows.{row_has, members_below}
-use Rattle.closure_terms.specs.Work.{IsWorked}
+use Rattle.closure_terms.specs.Work.{HasApplied}
 use Rattle.rule_passes.specs.Reached.{NoRule}
 use Rattle.rule_passes.proofs.excluding.exclude_between.Given as goal
 
 abbrev pub invariant-loop-u : goal.invariant-loop-u
 invariant-loop-u g l = record {
-  work : IsWorked l.instance l.fn.state l.state false NoRule;
+  work : HasApplied l.instance l.fn.state l.state false NoRule;
   part : (x : ℕ) → row_has l.rest x ≡ true → row_has l.fn.from x ≡ true;
-  shut : (x y : ℕ) → row_has l.fn.from x ≡ true → row_has l.rest x ≡ false → row_has l.fn.to y ≡ true
+  exclude_if_too_long : (x y : ℕ) → row_has l.fn.from x ≡ true → row_has l.rest x ≡ false → row_has l.fn.to y ≡ true
       → y < box_count l.instance → (x ≡ y → ⊥)
       → (excludes l.state.trail l.dim x y l.first ≡ true) × (excludes l.state.trail l.dim x y l.second ≡ true);
 }

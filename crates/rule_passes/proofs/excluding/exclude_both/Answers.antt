@@ -14,11 +14,11 @@ returns-clause-worked g c =
     none_then c.args.instance.now _ _ _ _
     (worked_kept _ _ _ _ NoRule c.if-exclude_each.false c.exclude_each.ensures.worked) c.exclude_each-2.ensures.worked
 
-pub returns-clause-shut : goal.returns-clause-shut
-returns-clause-shut g c = λ off v on. (
+pub returns-clause-exclude_if_too_long : goal.returns-clause-exclude_if_too_long
+returns-clause-exclude_if_too_long g c = λ off v on. (
   c.exclude_each-2.ensures.worked.extends.kept c.args.dim c.args.u v c.args.first
-      (c.exclude_each.ensures.shut v on),
-  c.exclude_each-2.ensures.shut v on,
+      (c.exclude_each.ensures.exclude_if_too_long v on),
+  c.exclude_each-2.ensures.exclude_if_too_long v on,
 )
 
 pub exclude_each-requires : goal.exclude_each-requires

@@ -30,4 +30,4 @@ returns-then-not-joined_beside g c =
     (λ is p. c.joined_beside.ensures.some c.if-not-joined_beside.true p)))
 
 pub returns : goal.returns
-returns g c = worked_as _ _ _ _ _ _ (λ rule e. e.1) c.shut_overlap.ensures
+returns g c = worked_as _ _ _ _ _ _ (λ rule e. e.1) c.exclude_overlap.ensures

@@ -1,8 +1,8 @@
 use Rattle.std.proofs.Common.{◌≡◌, ◌<◌, ℕ, false}
 use Rattle.packing_terms.specs.Rules.{Pair}
-use Rattle.closure_terms.specs.Work.{IsWorked}
+use Rattle.closure_terms.specs.Work.{HasApplied}
 use Rattle.rule_passes.proofs.pairs.pairs_from.Given as goal
 
 abbrev pub invariant-loop-v : goal.invariant-loop-v
-invariant-loop-v l = IsWorked l.instance l.fn.state l.state false
+invariant-loop-v l = HasApplied l.instance l.fn.state l.state false
     (λ rule. (v : ℕ) × (v < l.v) × ((l.u < v) × (rule ≡ Pair l.dim l.u v)))

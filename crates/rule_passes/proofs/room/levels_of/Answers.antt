@@ -1,4 +1,4 @@
-use Rattle.orientation_rules.specs.KeptWeights.{PlainLevels}
+use Rattle.orientation_rules.specs.CachedChainWeights.{PlainLevels}
 use Rattle.rule_passes.proofs.Levels.{each_push}
 use Rattle.rule_passes.proofs.room.levels_of.Goals as goal
 

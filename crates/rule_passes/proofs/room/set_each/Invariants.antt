@@ -1,5 +1,5 @@
 use Rattle.std.proofs.Common.{ℕ, ◌≡◌, ◌<◌, ◌≤◌, length, slice_index_or}
-use Rattle.orientation_rules.specs.KeptWeights.{PlainLevels}
+use Rattle.orientation_rules.specs.CachedChainWeights.{PlainLevels}
 use Rattle.rule_passes.specs.Rooms.{AreMade}
 use Rattle.rule_passes.proofs.room.set_each.Given as goal
 

@@ -1,7 +1,7 @@
 use Rattle.std.proofs.Common.{◌≡◌, ◌∙◌, arith, sym, ap, subst, [], IfSome}
 use Rattle.packing_terms.specs.Packing.{PlainInstance}
 use Rattle.packing_terms.specs.Exclusions.{AreAtEdges}
-use Rattle.tree_terms.specs.Trees.{outcome, told}
+use Rattle.tree_terms.specs.Trees.{outcome, under_budget}
 use Rattle.tree_terms.specs.ClassTree.{class_tree}
 use Rattle.tree_terms.specs.Levels.{level_by}
 use Rattle.tree_terms.proofs.Optima.{stack_small}
@@ -29,5 +29,5 @@ pub returns-clause-answer : goal.returns-clause-answer
 returns-clause-answer g c =
     c.level_of.ensures
     ∙ ap level_by (c.in_ok-outcome.ensures.outcome
-    ∙ ap (λ (i : PlainInstance). told c.args.settings.now.budget
+    ∙ ap (λ (i : PlainInstance). under_budget c.args.settings.now.budget
     (outcome (class_tree i c.args.start.now c.args.settings.now.scales))) c.in_ok-tall.ensures)

@@ -3,7 +3,7 @@ use Rattle.std.proofs.lemmas.Result.{IfOk-weaker}
 use Rattle.packing_terms.specs.declared.Exclusion.{Exclusion}
 use Rattle.packing_terms.proofs.Internal.{some_dimension}
 use Rattle.packing_terms.specs.Exclusions.{AreAtEdges}
-use Rattle.tree_terms.specs.Trees.{outcome, told}
+use Rattle.tree_terms.specs.Trees.{outcome, under_budget}
 use Rattle.work_share.specs.Outcomes.{plain_outcome}
 use Rattle.class_search.specs.Tree.{PlainClassTree, shape}
 use Rattle.class_search.proofs.Rights.{class_told}
@@ -29,7 +29,7 @@ returns-clause-outcome g c =
     record { instance = c.args.instance.now; start = es; scales = c.args.settings.now.scales })
     (c.as_slice.ensures.value ∙ c.in_ok-start.ensures) in
     subst (λ (t : PlainClassTree). IfOk c.solve.result
-    (λ r. plain_outcome r ≡ told c.args.settings.now.budget (outcome (shape t)))) tree c.solve.ensures
+    (λ r. plain_outcome r ≡ under_budget c.args.settings.now.budget (outcome (shape t)))) tree c.solve.ensures
 
 pub returns-clause-right : goal.returns-clause-right
 returns-clause-right g c =

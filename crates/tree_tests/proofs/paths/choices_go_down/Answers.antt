@@ -1,6 +1,6 @@
 use Rattle.std.proofs.Common.{◌≡◌, sym, ap, ◌∙◌, arith}
 use Rattle.tree_terms.specs.OuterTrees.{choice_tree}
-use Rattle.tree_terms.specs.Paths.{node_told}
+use Rattle.tree_terms.specs.Paths.{node_view}
 use Rattle.proof_tree.specs.Plain.{plain_token}
 use Rattle.work_share.specs.Nodes.{plain_node}
 use Rattle.tree_tests.proofs.Reached.{child_reached}
@@ -9,7 +9,7 @@ use Rattle.tree_tests.proofs.paths.choices_go_down.Goals as goal
 pub explore-requires-in-Split-Choose-eq1-eq0-eq2 : goal.explore-requires-in-Split-Choose-eq1-eq0-eq2
 explore-requires-in-Split-Choose-eq1-eq0-eq2 c =
     let told : plain_node c.in_ok-inside.field-0
-    ≡ node_told (choice_tree c.args.tree.now.instance c.args.tree.now.goal c.args.tree.now.scales) =
+    ≡ node_view (choice_tree c.args.tree.now.instance c.args.tree.now.goal c.args.tree.now.scales) =
     c.in_ok-inside.ensures in
     child_reached (choice_tree c.args.tree.now.instance c.args.tree.now.goal c.args.tree.now.scales)
     (plain_token c.in-Split-Choose-eq1-eq0-eq2.token) c.in-Split-Choose-eq1-eq0-eq2.own
@@ -19,7 +19,7 @@ explore-requires-in-Split-Choose-eq1-eq0-eq2 c =
 pub explore-requires-in-Split-Choose-eq1-eq0-eq2-2 : goal.explore-requires-in-Split-Choose-eq1-eq0-eq2-2
 explore-requires-in-Split-Choose-eq1-eq0-eq2-2 c =
     let told : plain_node c.in_ok-inside.field-0
-    ≡ node_told (choice_tree c.args.tree.now.instance c.args.tree.now.goal c.args.tree.now.scales) =
+    ≡ node_view (choice_tree c.args.tree.now.instance c.args.tree.now.goal c.args.tree.now.scales) =
     c.in_ok-inside.ensures in
     child_reached (choice_tree c.args.tree.now.instance c.args.tree.now.goal c.args.tree.now.scales)
     (plain_token c.in-Split-Choose-eq1-eq0-eq2.token) c.in-Split-Choose-eq1-eq0-eq2.own
@@ -29,7 +29,7 @@ explore-requires-in-Split-Choose-eq1-eq0-eq2-2 c =
 pub explore-requires-in-Split-Choose-eq1-eq0-eq2-3 : goal.explore-requires-in-Split-Choose-eq1-eq0-eq2-3
 explore-requires-in-Split-Choose-eq1-eq0-eq2-3 c =
     let told : plain_node c.in_ok-inside.field-0
-    ≡ node_told (choice_tree c.args.tree.now.instance c.args.tree.now.goal c.args.tree.now.scales) =
+    ≡ node_view (choice_tree c.args.tree.now.instance c.args.tree.now.goal c.args.tree.now.scales) =
     c.in_ok-inside.ensures in
     child_reached (choice_tree c.args.tree.now.instance c.args.tree.now.goal c.args.tree.now.scales)
     (plain_token c.in-Split-Choose-eq1-eq0-eq2.token) c.in-Split-Choose-eq1-eq0-eq2.own
@@ -39,7 +39,7 @@ explore-requires-in-Split-Choose-eq1-eq0-eq2-3 c =
 pub node-requires-in-Split-Choose-eq1-eq0-eq2 : goal.node-requires-in-Split-Choose-eq1-eq0-eq2
 node-requires-in-Split-Choose-eq1-eq0-eq2 c =
     let told : plain_node c.in_ok-inside.field-0
-    ≡ node_told (choice_tree c.args.tree.now.instance c.args.tree.now.goal c.args.tree.now.scales) =
+    ≡ node_view (choice_tree c.args.tree.now.instance c.args.tree.now.goal c.args.tree.now.scales) =
     c.in_ok-inside.ensures in
     child_reached (choice_tree c.args.tree.now.instance c.args.tree.now.goal c.args.tree.now.scales)
     (plain_token c.in-Split-Choose-eq1-eq0-eq2.token) c.in-Split-Choose-eq1-eq0-eq2.own

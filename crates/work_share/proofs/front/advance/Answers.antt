@@ -51,8 +51,8 @@ returns-then-more-budget-clause-front c =
     c.in-Some.is (Refuted c.in-Refuted.more) c.in-Refuted.ensures)
     (omega (arith, above)))
 
-pub behind_at-behind-requires : goal.behind_at-behind-requires
-behind_at-behind-requires c = linked_below c.args.slots.now c.loop-len.len c.in-Some.number c.loop-len.behind
+pub next_of-behind-requires : goal.next_of-behind-requires
+next_of-behind-requires c = linked_below c.args.slots.now c.loop-len.len c.in-Some.number c.loop-len.behind
     c.loop-len.invariant.linked c.in-Some.is c.requires.below
 
 pub loop-len-preserved : goal.loop-len-preserved
@@ -67,5 +67,5 @@ loop-len-preserved c =
           c.in-Some.is (Refuted c.in-Refuted.more) c.in-Refuted.ensures)
           c.if-more-budget.false;
       linked = linked_more c.args.slots.now c.loop-len.len c.in-Some.number c.loop-len.behind
-          c.loop-len.invariant.linked c.in-Some.is c.behind_at-behind.result c.behind_at-behind.ensures;
+          c.loop-len.invariant.linked c.in-Some.is c.next_of-behind.result c.next_of-behind.ensures;
     }

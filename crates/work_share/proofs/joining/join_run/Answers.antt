@@ -2,7 +2,7 @@ use Rattle.std.proofs.Common.{rules, arith, ◌≡◌, ◌<◌, ◌+◌, ◌∙�
 use Rattle.std.proofs.Common.{true, ℕ, List, Bool}
 use Rattle.board_terms.specs.Board.{PlainEntry}
 use Rattle.std.proofs.lemmas.List.{length-map}
-use Rattle.tree_terms.specs.Trees.{No, Decided, told, join}
+use Rattle.tree_terms.specs.Trees.{No, Decided, under_budget, join}
 use Rattle.board_terms.specs.Runs.{run_of, with_entry}
 use Rattle.work_share.specs.Slots.{entry_at, entries_of}
 use Rattle.work_share.specs.Links.{order_of}
@@ -62,7 +62,7 @@ returns-then-front c =
     c.in-Some.is no_entry ∙ entry_read slots n slot inside c.index_mut.ensures.value in
     let rest = run_of c.args.budget (drop (c.args.front.len + 1) es) in
     c.end_run.ensures n (entry_tokens (take c.args.front.len es)) rest
-    ∙ (ap (λ e. told c.args.budget
+    ∙ (ap (λ e. under_budget c.args.budget
     (join (No (entry_tokens (take c.args.front.len es)) c.args.front.count)
     (with_entry c.args.budget e rest).verdict)) (sym is)
     ∙ joined_end c.args.budget c.args.front.len c.args.front.count es no_entry f)

@@ -5,15 +5,15 @@ use Rattle.std.proofs.lemmas.List.{length-set}
 use Rattle.std.proofs.lemmas.Option.{slice_get_within, get_or_from_slice_get}
 use Rattle.board_terms.specs.Kept.{AreBelow}
 use Rattle.work_share.specs.Slots.{entries_of}
-use Rattle.work_share.specs.Links.{behind_at, order_of}
+use Rattle.work_share.specs.Links.{next_of, order_of}
 use Rattle.work_share.specs.Joining.{entry_tokens}
 use Rattle.work_share.proofs.Links.{chain_next, link_set}
 use Rattle.work_share.proofs.Advance.{below_there}
 use Rattle.work_share.proofs.Tokens.{tokens_more}
 use Rattle.work_share.proofs.joining.join_tokens.Goals as goal
 
-pub behind_at-behind-requires : goal.behind_at-behind-requires
-behind_at-behind-requires c =
+pub next_of-behind-requires : goal.next_of-behind-requires
+next_of-behind-requires c =
     let order = order_of c.args.slots.items in
     let there : slice_get order c.loop-position._position ≡ Some c.in-Some.number = sym c.loop-position.invariant.here
     ∙ c.in-Some.is in
@@ -59,7 +59,7 @@ loop-position-preserved c =
       size = length-set slots n new ∙ size;
       links = λ m. link_set slots n m old new inside value c.push_tokens.ensures.link
           ∙ c.loop-position.invariant.links m;
-      here = c.behind_at-behind.ensures ∙ (ap (λ ss. behind_at ss n) c.deref.ensures.value
+      here = c.next_of-behind.ensures ∙ (ap (λ ss. next_of ss n) c.deref.ensures.value
           ∙ (c.loop-position.invariant.links n
           ∙ (chain_next c.args.slots.items (Some 0) order k n c.requires.chain there
           ∙ ap (slice_get order) (sym (add-one k)))));

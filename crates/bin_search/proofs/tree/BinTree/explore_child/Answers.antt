@@ -1,6 +1,6 @@
 use Rattle.std.proofs.Common.{◌≡◌, sym, subst, Option, IfSome}
 use Rattle.std.proofs.lemmas.Result.{IfOk-weaker}
-use Rattle.tree_terms.specs.Trees.{SearchTree, outcome, told}
+use Rattle.tree_terms.specs.Trees.{SearchTree, outcome, under_budget}
 use Rattle.work_share.specs.Outcomes.{plain_outcome}
 use Rattle.bin_search.proofs.tree.BinTree.explore_child.Goals as goal
 
@@ -11,5 +11,5 @@ returns c =
     let s = rw (← e) at c.requires.search in
     let q = rw s at c.explore_step.ensures in
     rw (← e) (IfOk-weaker c.explore_step.result _ _
-    (λ r g. subst (λ (x : Option SearchTree). IfSome x (λ node. plain_outcome r ≡ told c.args.cap (outcome node)))
+    (λ r g. subst (λ (x : Option SearchTree). IfSome x (λ node. plain_outcome r ≡ under_budget c.args.cap (outcome node)))
     (sym h.is) g) q)

@@ -1,7 +1,7 @@
 use Rattle.std.proofs.Common.{◌≡◌, ◌-◌, sym, ap, subst, ◌∙◌, arith, [], length, take, get_or, Option, Some, IfSome}
 use Rattle.std.proofs.lemmas.Result.{IfOk-weaker}
 use Rattle.packing_terms.specs.Rank.{ranked}
-use Rattle.tree_terms.specs.Trees.{SearchTree, node_at, outcome, told}
+use Rattle.tree_terms.specs.Trees.{SearchTree, node_at, outcome, under_budget}
 use Rattle.work_share.specs.Outcomes.{plain_outcome}
 use Rattle.choice_search.specs.Choices.{PlainChoiceTree, shape}
 use Rattle.choice_search.specs.Paths.{taken_along}
@@ -57,7 +57,7 @@ returns-then-path-last-eq0 c =
     (get_or c.args.path.now (length c.args.path.now - 1) 0) (node_at (Some (shape t)) c.args.path.now) h
     c.if-path-last-eq0.true in
     rw (← e) (IfOk-weaker c.explore_first.result _ _
-    (λ r g. subst (λ (x : Option SearchTree). IfSome x (λ node. plain_outcome r ≡ told c.args.cap (outcome node)))
+    (λ r g. subst (λ (x : Option SearchTree). IfSome x (λ node. plain_outcome r ≡ under_budget c.args.cap (outcome node)))
     (sym n) g) q)
 
 pub explore_second-requires-clause-above : goal.explore_second-requires-clause-above
@@ -96,5 +96,5 @@ returns-else-path-last-eq0 c =
     (get_or c.args.path.now (length c.args.path.now - 1) 0) (node_at (Some (shape t)) c.args.path.now) h
     c.if-path-last-eq0.false in
     rw (← e) (IfOk-weaker c.explore_second.result _ _
-    (λ r g. subst (λ (x : Option SearchTree). IfSome x (λ node. plain_outcome r ≡ told c.args.cap (outcome node)))
+    (λ r g. subst (λ (x : Option SearchTree). IfSome x (λ node. plain_outcome r ≡ under_budget c.args.cap (outcome node)))
     (sym n) g) q)

@@ -2,7 +2,7 @@ use Rattle.std.proofs.Common.{◌≡◌, ◌-◌, sym, ap, subst, ◌∙◌, ari
 use Rattle.std.proofs.lemmas.Result.{IfOk-weaker}
 use Rattle.packing_terms.specs.Rank.{ranked}
 use Rattle.tree_terms.specs.Trees.{SearchTree, node_at}
-use Rattle.tree_terms.specs.Paths.{node_told}
+use Rattle.tree_terms.specs.Paths.{node_view}
 use Rattle.work_share.specs.Nodes.{plain_node}
 use Rattle.choice_search.specs.Choices.{PlainChoiceTree, shape}
 use Rattle.choice_search.specs.Paths.{taken_along}
@@ -100,7 +100,7 @@ returns-then-path-last-eq0 c =
     (get_or c.args.path.now (length c.args.path.now - 1) 0) (node_at (Some (shape t)) c.args.path.now) h
     c.if-path-last-eq0.true in
     rw (← e) (IfOk-weaker c.tell_first.result _ _
-    (λ r g. subst (λ (x : Option SearchTree). IfSome x (λ node. plain_node r ≡ node_told node)) (sym n) g) q)
+    (λ r g. subst (λ (x : Option SearchTree). IfSome x (λ node. plain_node r ≡ node_view node)) (sym n) g) q)
 
 pub returns-else-path-last-eq0 : goal.returns-else-path-last-eq0
 returns-else-path-last-eq0 c =
@@ -121,4 +121,4 @@ returns-else-path-last-eq0 c =
     (get_or c.args.path.now (length c.args.path.now - 1) 0) (node_at (Some (shape t)) c.args.path.now) h
     c.if-path-last-eq0.false in
     rw (← e) (subst (λ (x : Option SearchTree). IfSome x
-    (λ node. plain_node c.tell_second.result ≡ node_told node)) (sym n) q)
+    (λ node. plain_node c.tell_second.result ≡ node_view node)) (sym n) q)

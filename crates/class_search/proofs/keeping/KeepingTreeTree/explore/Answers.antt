@@ -1,5 +1,5 @@
 use Rattle.std.proofs.Common.{◌≡◌, Some, IfSome, subst}
-use Rattle.tree_terms.specs.Trees.{node_at, told}
+use Rattle.tree_terms.specs.Trees.{node_at, under_budget}
 use Rattle.tree_terms.specs.Paths.{outcome_at}
 use Rattle.work_share.specs.Outcomes.{plain_outcome}
 use Rattle.class_search.specs.Kept.{IsWalkOf}
@@ -17,7 +17,7 @@ keep-requires-clause-known c =
 pub returns : goal.returns
 returns c =
     subst (λ (t : PlainClassTree). IfSome (outcome_at (shape t) c.args.path.now)
-    (λ v. plain_outcome c.in_ok-outcome.field-0.outcome ≡ told c.args.cap v)) c.self.view_is
+    (λ v. plain_outcome c.in_ok-outcome.field-0.outcome ≡ under_budget c.args.cap v)) c.self.view_is
     (explored_told c.self.inside.tree.now.instance (node_at (Some (shape c.self.inside.tree.now)) c.args.path.now)
     c.args.cap c.in_ok-outcome.field-0
     (plain_outcome c.in_ok-outcome.field-0.outcome) (λ tree h. h.told_so) c.in_ok-outcome.ensures)

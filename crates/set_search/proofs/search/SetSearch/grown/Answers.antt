@@ -3,7 +3,7 @@ use Rattle.packing_terms.specs.Goals.{subset}
 use Rattle.packing_terms.specs.Packing.{IsPacking}
 use Rattle.packing_terms.specs.Tokens.{PlainToken}
 use Rattle.packing_terms.specs.Tokens.PlainToken.{SetRefuted}
-use Rattle.tree_terms.specs.Trees.{Yes, No, told}
+use Rattle.tree_terms.specs.Trees.{Yes, No, under_budget}
 use Rattle.tree_terms.specs.OuterTrees.{set_verdict}
 use Rattle.work_share.specs.Outcomes.{plain_outcome}
 use Rattle.class_search.specs.Right.{IsRight}
@@ -18,7 +18,7 @@ returns-in_ok-append-in-No-clause-child c =
     (No c.in-No.inner c.in-No.count)
     (ap plain_outcome (sym c.in-No.is)
     ∙ (c.in_ok-decide_by.ensures.outcome
-    ∙ ap (λ us. told (c.args.left - 1) (set_verdict c.args.self.now.instance c.args.self.now.scales us)) e)) in
+    ∙ ap (λ us. under_budget (c.args.left - 1) (set_verdict c.args.self.now.instance c.args.self.now.scales us)) e)) in
     record {
       tokens = c.in-No.inner;
       cost = c.in-No.count;
@@ -38,7 +38,7 @@ returns-in-Yes-clause-child c =
     (Yes c.in-Yes.numbers.items c.in-Yes.count)
     (ap plain_outcome (sym c.in-Yes.is)
     ∙ (c.in_ok-decide_by.ensures.outcome
-    ∙ ap (λ us. told (c.args.left - 1) (set_verdict c.args.self.now.instance c.args.self.now.scales us)) e)) in
+    ∙ ap (λ us. under_budget (c.args.left - 1) (set_verdict c.args.self.now.instance c.args.self.now.scales us)) e)) in
     let pack : IsPacking (subset c.args.self.now.instance c.as_slice.result.now) c.in-Yes.numbers.items
     = subst (λ r. IsRight (subset c.args.self.now.instance c.as_slice.result.now) [] (plain_outcome r)) c.in-Yes.is
     c.in_ok-decide_by.ensures.right in (

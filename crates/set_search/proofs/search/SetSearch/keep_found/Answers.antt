@@ -1,5 +1,5 @@
 use Rattle.std.proofs.Common.{◌≡◌, sym, subst}
-use Rattle.tree_terms.specs.Trees.{told}
+use Rattle.tree_terms.specs.Trees.{under_budget}
 use Rattle.tree_terms.specs.OuterTrees.{set_verdict}
 use Rattle.work_share.specs.Outcomes.{plain_outcome}
 use Rattle.set_search.specs.Searches.{PlainSetSearch}
@@ -9,7 +9,7 @@ pub keep-requires-clause-found : goal.keep-requires-clause-found
 keep-requires-clause-found c =
     let v = c.self.view_is in
     subst (λ (s : PlainSetSearch). plain_outcome c.args.found.now
-    ≡ told c.args.budget (set_verdict s.instance s.scales c.args.keep.now)) (sym c.self.invariant.1)
+    ≡ under_budget c.args.budget (set_verdict s.instance s.scales c.args.keep.now)) (sym c.self.invariant.1)
     (rw (← v) at c.requires.found)
 
 pub keep-requires-then-self-clause-found : goal.keep-requires-then-self-clause-found

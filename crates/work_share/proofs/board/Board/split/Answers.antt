@@ -1,13 +1,13 @@
 use Rattle.std.proofs.Common.{rules, arith, ◌≡◌, ◌≤◌, ◌+◌, ◌*◌, ◌-◌, ◌++◌, ◌∷◌, [], ◌∙◌, sym, ap, ap₂, subst, length}
 use Rattle.std.proofs.Common.{reverse, take, drop, vec_len, vec_capacity, Some, IfSome}
 use Rattle.tree_terms.specs.Trees.{node_at}
-use Rattle.tree_terms.specs.Paths.{Splits, node_told}
+use Rattle.tree_terms.specs.Paths.{Splits, node_view}
 use Rattle.board_terms.specs.declared.Event.TheVariants as event
 use Rattle.board_terms.specs.Board.{out_path, children_from}
 use Rattle.proof_tree.specs.Plain.{plain_token}
 use Rattle.work_share.specs.declared.slot.SlotState.TheVariants as stored
 use Rattle.work_share.specs.Slots.{entries_from, with_slot}
-use Rattle.work_share.specs.Links.{behind_at, order_of, link_to, links_from, links_of, with_link}
+use Rattle.work_share.specs.Links.{next_of, order_of, link_to, links_from, links_of, with_link}
 use Rattle.work_share.specs.Stacks.{count_left}
 use Rattle.work_share.specs.Boards.{PlainBoard, waiting_tasks}
 use Rattle.work_share.proofs.Kept.{kept_roomier}
@@ -16,8 +16,8 @@ use Rattle.work_share.proofs.Splitting.{split_made, split_tasks}
 use Rattle.work_share.proofs.Dividing.{divide_below, divide_size, divide_linked, divide_known, divide_step, divide_kept}
 use Rattle.work_share.proofs.board.Board.split.Goals as goal
 
-pub behind_at-behind-requires : goal.behind_at-behind-requires
-behind_at-behind-requires g c =
+pub next_of-behind-requires : goal.next_of-behind-requires
+next_of-behind-requires g c =
     let b = c.self.inside in
     let n = c.args.task.number in
     let p = c.args.task.path in
@@ -69,17 +69,17 @@ put_children-requires-clause-slots_room g c =
     let made = c.in-Ok.made in
     let size : vec_len b.slots ≡ length b.slots.items = search rules in
     let fresh : c.len.result ≡ length b.slots.items = c.len.ensures ∙ size in
-    let behind : c.behind_at-behind.result ≡ behind_at b.slots.items n = c.behind_at-behind.ensures
-    ∙ ap₂ behind_at c.deref.ensures.value c.number-number.ensures in
+    let behind : c.next_of-behind.result ≡ next_of b.slots.items n = c.next_of-behind.ensures
+    ∙ ap₂ next_of c.deref.ensures.value c.number-number.ensures in
     let children : entries_from (length b.slots.items) made.slots.items
     ≡ children_from p 0 c.args.children (length b.slots.items) =
     subst (λ k. entries_from k made.slots.items ≡ children_from p 0 c.args.children k) fresh
     (subst (λ q. entries_from c.len.result made.slots.items ≡ children_from q 0 c.args.children c.len.result)
     c.path.ensures c.in-Ok.ensures.slots) in
     let links : links_of made.slots.items ≡ links_from (length b.slots.items) c.args.children
-    (behind_at b.slots.items n) =
+    (next_of b.slots.items n) =
     c.in-Ok.ensures.links ∙ ap₂ (λ k h. links_from k c.args.children h) fresh behind in
-    let link : made.link ≡ link_to (length b.slots.items) c.args.children (behind_at b.slots.items n) =
+    let link : made.link ≡ link_to (length b.slots.items) c.args.children (next_of b.slots.items n) =
     c.in-Ok.ensures.link ∙ ap₂ (λ k h. link_to k c.args.children h) fresh behind in
     let tasks : made.tasks.items ≡ reverse (waiting_tasks (children_from p 0 c.args.children (length b.slots.items))) =
     c.in-Ok.ensures.tasks ∙ ap₂ (λ q k. reverse (waiting_tasks (children_from q 0 c.args.children k)))
@@ -99,17 +99,17 @@ put_children-requires-clause-waiting_room g c =
     let made = c.in-Ok.made in
     let size : vec_len b.slots ≡ length b.slots.items = search rules in
     let fresh : c.len.result ≡ length b.slots.items = c.len.ensures ∙ size in
-    let behind : c.behind_at-behind.result ≡ behind_at b.slots.items n = c.behind_at-behind.ensures
-    ∙ ap₂ behind_at c.deref.ensures.value c.number-number.ensures in
+    let behind : c.next_of-behind.result ≡ next_of b.slots.items n = c.next_of-behind.ensures
+    ∙ ap₂ next_of c.deref.ensures.value c.number-number.ensures in
     let children : entries_from (length b.slots.items) made.slots.items
     ≡ children_from p 0 c.args.children (length b.slots.items) =
     subst (λ k. entries_from k made.slots.items ≡ children_from p 0 c.args.children k) fresh
     (subst (λ q. entries_from c.len.result made.slots.items ≡ children_from q 0 c.args.children c.len.result)
     c.path.ensures c.in-Ok.ensures.slots) in
     let links : links_of made.slots.items ≡ links_from (length b.slots.items) c.args.children
-    (behind_at b.slots.items n) =
+    (next_of b.slots.items n) =
     c.in-Ok.ensures.links ∙ ap₂ (λ k h. links_from k c.args.children h) fresh behind in
-    let link : made.link ≡ link_to (length b.slots.items) c.args.children (behind_at b.slots.items n) =
+    let link : made.link ≡ link_to (length b.slots.items) c.args.children (next_of b.slots.items n) =
     c.in-Ok.ensures.link ∙ ap₂ (λ k h. link_to k c.args.children h) fresh behind in
     let tasks : made.tasks.items ≡ reverse (waiting_tasks (children_from p 0 c.args.children (length b.slots.items))) =
     c.in-Ok.ensures.tasks ∙ ap₂ (λ q k. reverse (waiting_tasks (children_from q 0 c.args.children k)))
@@ -129,24 +129,24 @@ advance-self-inside-requires-clause-below g c =
     let made = c.in-Ok.made in
     let size : vec_len b.slots ≡ length b.slots.items = search rules in
     let fresh : c.len.result ≡ length b.slots.items = c.len.ensures ∙ size in
-    let behind : c.behind_at-behind.result ≡ behind_at b.slots.items n = c.behind_at-behind.ensures
-    ∙ ap₂ behind_at c.deref.ensures.value c.number-number.ensures in
+    let behind : c.next_of-behind.result ≡ next_of b.slots.items n = c.next_of-behind.ensures
+    ∙ ap₂ next_of c.deref.ensures.value c.number-number.ensures in
     let children : entries_from (length b.slots.items) made.slots.items
     ≡ children_from p 0 c.args.children (length b.slots.items) =
     subst (λ k. entries_from k made.slots.items ≡ children_from p 0 c.args.children k) fresh
     (subst (λ q. entries_from c.len.result made.slots.items ≡ children_from q 0 c.args.children c.len.result)
     c.path.ensures c.in-Ok.ensures.slots) in
     let links : links_of made.slots.items ≡ links_from (length b.slots.items) c.args.children
-    (behind_at b.slots.items n) =
+    (next_of b.slots.items n) =
     c.in-Ok.ensures.links ∙ ap₂ (λ k h. links_from k c.args.children h) fresh behind in
-    let link : made.link ≡ link_to (length b.slots.items) c.args.children (behind_at b.slots.items n) =
+    let link : made.link ≡ link_to (length b.slots.items) c.args.children (next_of b.slots.items n) =
     c.in-Ok.ensures.link ∙ ap₂ (λ k h. link_to k c.args.children h) fresh behind in
     let tasks : made.tasks.items ≡ reverse (waiting_tasks (children_from p 0 c.args.children (length b.slots.items))) =
     c.in-Ok.ensures.tasks ∙ ap₂ (λ q k. reverse (waiting_tasks (children_from q 0 c.args.children k)))
     c.path.ensures fresh in
     let slots : c.put_children.new.slots.items
     ≡ with_slot (with_link b.slots.items n (link_to (length b.slots.items) c.args.children
-    (behind_at b.slots.items n))) n (stored.Split c.args.token c.args.own c.args.children) ++ made.slots.items =
+    (next_of b.slots.items n))) n (stored.Split c.args.token c.args.own c.args.children) ++ made.slots.items =
     c.put_children.ensures.slots
     ∙ (ap₂ (λ ss k. with_slot (with_link ss k made.link) k
     (stored.Split c.args.token c.args.own c.args.children) ++ made.slots.items) c.reserve_for.ensures.slots
@@ -168,24 +168,24 @@ advance-self-inside-requires-clause-size g c =
     let made = c.in-Ok.made in
     let size : vec_len b.slots ≡ length b.slots.items = search rules in
     let fresh : c.len.result ≡ length b.slots.items = c.len.ensures ∙ size in
-    let behind : c.behind_at-behind.result ≡ behind_at b.slots.items n = c.behind_at-behind.ensures
-    ∙ ap₂ behind_at c.deref.ensures.value c.number-number.ensures in
+    let behind : c.next_of-behind.result ≡ next_of b.slots.items n = c.next_of-behind.ensures
+    ∙ ap₂ next_of c.deref.ensures.value c.number-number.ensures in
     let children : entries_from (length b.slots.items) made.slots.items
     ≡ children_from p 0 c.args.children (length b.slots.items) =
     subst (λ k. entries_from k made.slots.items ≡ children_from p 0 c.args.children k) fresh
     (subst (λ q. entries_from c.len.result made.slots.items ≡ children_from q 0 c.args.children c.len.result)
     c.path.ensures c.in-Ok.ensures.slots) in
     let links : links_of made.slots.items ≡ links_from (length b.slots.items) c.args.children
-    (behind_at b.slots.items n) =
+    (next_of b.slots.items n) =
     c.in-Ok.ensures.links ∙ ap₂ (λ k h. links_from k c.args.children h) fresh behind in
-    let link : made.link ≡ link_to (length b.slots.items) c.args.children (behind_at b.slots.items n) =
+    let link : made.link ≡ link_to (length b.slots.items) c.args.children (next_of b.slots.items n) =
     c.in-Ok.ensures.link ∙ ap₂ (λ k h. link_to k c.args.children h) fresh behind in
     let tasks : made.tasks.items ≡ reverse (waiting_tasks (children_from p 0 c.args.children (length b.slots.items))) =
     c.in-Ok.ensures.tasks ∙ ap₂ (λ q k. reverse (waiting_tasks (children_from q 0 c.args.children k)))
     c.path.ensures fresh in
     let slots : c.put_children.new.slots.items
     ≡ with_slot (with_link b.slots.items n (link_to (length b.slots.items) c.args.children
-    (behind_at b.slots.items n))) n (stored.Split c.args.token c.args.own c.args.children) ++ made.slots.items =
+    (next_of b.slots.items n))) n (stored.Split c.args.token c.args.own c.args.children) ++ made.slots.items =
     c.put_children.ensures.slots
     ∙ (ap₂ (λ ss k. with_slot (with_link ss k made.link) k
     (stored.Split c.args.token c.args.own c.args.children) ++ made.slots.items) c.reserve_for.ensures.slots
@@ -207,24 +207,24 @@ advance-self-inside-requires-clause-linked g c =
     let made = c.in-Ok.made in
     let size : vec_len b.slots ≡ length b.slots.items = search rules in
     let fresh : c.len.result ≡ length b.slots.items = c.len.ensures ∙ size in
-    let behind : c.behind_at-behind.result ≡ behind_at b.slots.items n = c.behind_at-behind.ensures
-    ∙ ap₂ behind_at c.deref.ensures.value c.number-number.ensures in
+    let behind : c.next_of-behind.result ≡ next_of b.slots.items n = c.next_of-behind.ensures
+    ∙ ap₂ next_of c.deref.ensures.value c.number-number.ensures in
     let children : entries_from (length b.slots.items) made.slots.items
     ≡ children_from p 0 c.args.children (length b.slots.items) =
     subst (λ k. entries_from k made.slots.items ≡ children_from p 0 c.args.children k) fresh
     (subst (λ q. entries_from c.len.result made.slots.items ≡ children_from q 0 c.args.children c.len.result)
     c.path.ensures c.in-Ok.ensures.slots) in
     let links : links_of made.slots.items ≡ links_from (length b.slots.items) c.args.children
-    (behind_at b.slots.items n) =
+    (next_of b.slots.items n) =
     c.in-Ok.ensures.links ∙ ap₂ (λ k h. links_from k c.args.children h) fresh behind in
-    let link : made.link ≡ link_to (length b.slots.items) c.args.children (behind_at b.slots.items n) =
+    let link : made.link ≡ link_to (length b.slots.items) c.args.children (next_of b.slots.items n) =
     c.in-Ok.ensures.link ∙ ap₂ (λ k h. link_to k c.args.children h) fresh behind in
     let tasks : made.tasks.items ≡ reverse (waiting_tasks (children_from p 0 c.args.children (length b.slots.items))) =
     c.in-Ok.ensures.tasks ∙ ap₂ (λ q k. reverse (waiting_tasks (children_from q 0 c.args.children k)))
     c.path.ensures fresh in
     let slots : c.put_children.new.slots.items
     ≡ with_slot (with_link b.slots.items n (link_to (length b.slots.items) c.args.children
-    (behind_at b.slots.items n))) n (stored.Split c.args.token c.args.own c.args.children) ++ made.slots.items =
+    (next_of b.slots.items n))) n (stored.Split c.args.token c.args.own c.args.children) ++ made.slots.items =
     c.put_children.ensures.slots
     ∙ (ap₂ (λ ss k. with_slot (with_link ss k made.link) k
     (stored.Split c.args.token c.args.own c.args.children) ++ made.slots.items) c.reserve_for.ensures.slots
@@ -247,24 +247,24 @@ advance-self-inside-requires-clause-known g c =
     let made = c.in-Ok.made in
     let size : vec_len b.slots ≡ length b.slots.items = search rules in
     let fresh : c.len.result ≡ length b.slots.items = c.len.ensures ∙ size in
-    let behind : c.behind_at-behind.result ≡ behind_at b.slots.items n = c.behind_at-behind.ensures
-    ∙ ap₂ behind_at c.deref.ensures.value c.number-number.ensures in
+    let behind : c.next_of-behind.result ≡ next_of b.slots.items n = c.next_of-behind.ensures
+    ∙ ap₂ next_of c.deref.ensures.value c.number-number.ensures in
     let children : entries_from (length b.slots.items) made.slots.items
     ≡ children_from p 0 c.args.children (length b.slots.items) =
     subst (λ k. entries_from k made.slots.items ≡ children_from p 0 c.args.children k) fresh
     (subst (λ q. entries_from c.len.result made.slots.items ≡ children_from q 0 c.args.children c.len.result)
     c.path.ensures c.in-Ok.ensures.slots) in
     let links : links_of made.slots.items ≡ links_from (length b.slots.items) c.args.children
-    (behind_at b.slots.items n) =
+    (next_of b.slots.items n) =
     c.in-Ok.ensures.links ∙ ap₂ (λ k h. links_from k c.args.children h) fresh behind in
-    let link : made.link ≡ link_to (length b.slots.items) c.args.children (behind_at b.slots.items n) =
+    let link : made.link ≡ link_to (length b.slots.items) c.args.children (next_of b.slots.items n) =
     c.in-Ok.ensures.link ∙ ap₂ (λ k h. link_to k c.args.children h) fresh behind in
     let tasks : made.tasks.items ≡ reverse (waiting_tasks (children_from p 0 c.args.children (length b.slots.items))) =
     c.in-Ok.ensures.tasks ∙ ap₂ (λ q k. reverse (waiting_tasks (children_from q 0 c.args.children k)))
     c.path.ensures fresh in
     let slots : c.put_children.new.slots.items
     ≡ with_slot (with_link b.slots.items n (link_to (length b.slots.items) c.args.children
-    (behind_at b.slots.items n))) n (stored.Split c.args.token c.args.own c.args.children) ++ made.slots.items =
+    (next_of b.slots.items n))) n (stored.Split c.args.token c.args.own c.args.children) ++ made.slots.items =
     c.put_children.ensures.slots
     ∙ (ap₂ (λ ss k. with_slot (with_link ss k made.link) k
     (stored.Split c.args.token c.args.own c.args.children) ++ made.slots.items) c.reserve_for.ensures.slots
@@ -301,24 +301,24 @@ invariant_of-self-2 g c =
     let made = c.in-Ok.made in
     let size : vec_len b.slots ≡ length b.slots.items = search rules in
     let fresh : c.len.result ≡ length b.slots.items = c.len.ensures ∙ size in
-    let behind : c.behind_at-behind.result ≡ behind_at b.slots.items n = c.behind_at-behind.ensures
-    ∙ ap₂ behind_at c.deref.ensures.value c.number-number.ensures in
+    let behind : c.next_of-behind.result ≡ next_of b.slots.items n = c.next_of-behind.ensures
+    ∙ ap₂ next_of c.deref.ensures.value c.number-number.ensures in
     let children : entries_from (length b.slots.items) made.slots.items
     ≡ children_from p 0 c.args.children (length b.slots.items) =
     subst (λ k. entries_from k made.slots.items ≡ children_from p 0 c.args.children k) fresh
     (subst (λ q. entries_from c.len.result made.slots.items ≡ children_from q 0 c.args.children c.len.result)
     c.path.ensures c.in-Ok.ensures.slots) in
     let links : links_of made.slots.items ≡ links_from (length b.slots.items) c.args.children
-    (behind_at b.slots.items n) =
+    (next_of b.slots.items n) =
     c.in-Ok.ensures.links ∙ ap₂ (λ k h. links_from k c.args.children h) fresh behind in
-    let link : made.link ≡ link_to (length b.slots.items) c.args.children (behind_at b.slots.items n) =
+    let link : made.link ≡ link_to (length b.slots.items) c.args.children (next_of b.slots.items n) =
     c.in-Ok.ensures.link ∙ ap₂ (λ k h. link_to k c.args.children h) fresh behind in
     let tasks : made.tasks.items ≡ reverse (waiting_tasks (children_from p 0 c.args.children (length b.slots.items))) =
     c.in-Ok.ensures.tasks ∙ ap₂ (λ q k. reverse (waiting_tasks (children_from q 0 c.args.children k)))
     c.path.ensures fresh in
     let slots : c.put_children.new.slots.items
     ≡ with_slot (with_link b.slots.items n (link_to (length b.slots.items) c.args.children
-    (behind_at b.slots.items n))) n (stored.Split c.args.token c.args.own c.args.children) ++ made.slots.items =
+    (next_of b.slots.items n))) n (stored.Split c.args.token c.args.own c.args.children) ++ made.slots.items =
     c.put_children.ensures.slots
     ∙ (ap₂ (λ ss k. with_slot (with_link ss k made.link) k
     (stored.Split c.args.token c.args.own c.args.children) ++ made.slots.items) c.reserve_for.ensures.slots
@@ -326,7 +326,7 @@ invariant_of-self-2 g c =
     ∙ ap (λ l. with_slot (with_link b.slots.items n l) n
     (stored.Split c.args.token c.args.own c.args.children) ++ made.slots.items) link) in
     let right = subst (λ (v : PlainBoard g.row.T.Denot). IfSome (node_at (Some (g.T.Tree.shape v.tree)) p)
-    (λ node. node_told node ≡ Splits (plain_token c.args.token) c.args.own c.args.children))
+    (λ node. node_view node ≡ Splits (plain_token c.args.token) c.args.own c.args.children))
     (sym c.self.view_is) c.requires.told in
     let waiting = c.reserve_for.ensures.waiting in
     let left : c.count_left-left.result ≡ count_left p (reverse b.waiting.items) =
@@ -366,24 +366,24 @@ returns-clause-step g c =
     let made = c.in-Ok.made in
     let size : vec_len b.slots ≡ length b.slots.items = search rules in
     let fresh : c.len.result ≡ length b.slots.items = c.len.ensures ∙ size in
-    let behind : c.behind_at-behind.result ≡ behind_at b.slots.items n = c.behind_at-behind.ensures
-    ∙ ap₂ behind_at c.deref.ensures.value c.number-number.ensures in
+    let behind : c.next_of-behind.result ≡ next_of b.slots.items n = c.next_of-behind.ensures
+    ∙ ap₂ next_of c.deref.ensures.value c.number-number.ensures in
     let children : entries_from (length b.slots.items) made.slots.items
     ≡ children_from p 0 c.args.children (length b.slots.items) =
     subst (λ k. entries_from k made.slots.items ≡ children_from p 0 c.args.children k) fresh
     (subst (λ q. entries_from c.len.result made.slots.items ≡ children_from q 0 c.args.children c.len.result)
     c.path.ensures c.in-Ok.ensures.slots) in
     let links : links_of made.slots.items ≡ links_from (length b.slots.items) c.args.children
-    (behind_at b.slots.items n) =
+    (next_of b.slots.items n) =
     c.in-Ok.ensures.links ∙ ap₂ (λ k h. links_from k c.args.children h) fresh behind in
-    let link : made.link ≡ link_to (length b.slots.items) c.args.children (behind_at b.slots.items n) =
+    let link : made.link ≡ link_to (length b.slots.items) c.args.children (next_of b.slots.items n) =
     c.in-Ok.ensures.link ∙ ap₂ (λ k h. link_to k c.args.children h) fresh behind in
     let tasks : made.tasks.items ≡ reverse (waiting_tasks (children_from p 0 c.args.children (length b.slots.items))) =
     c.in-Ok.ensures.tasks ∙ ap₂ (λ q k. reverse (waiting_tasks (children_from q 0 c.args.children k)))
     c.path.ensures fresh in
     let slots : c.put_children.new.slots.items
     ≡ with_slot (with_link b.slots.items n (link_to (length b.slots.items) c.args.children
-    (behind_at b.slots.items n))) n (stored.Split c.args.token c.args.own c.args.children) ++ made.slots.items =
+    (next_of b.slots.items n))) n (stored.Split c.args.token c.args.own c.args.children) ++ made.slots.items =
     c.put_children.ensures.slots
     ∙ (ap₂ (λ ss k. with_slot (with_link ss k made.link) k
     (stored.Split c.args.token c.args.own c.args.children) ++ made.slots.items) c.reserve_for.ensures.slots
@@ -391,7 +391,7 @@ returns-clause-step g c =
     ∙ ap (λ l. with_slot (with_link b.slots.items n l) n
     (stored.Split c.args.token c.args.own c.args.children) ++ made.slots.items) link) in
     let right = subst (λ (v : PlainBoard g.row.T.Denot). IfSome (node_at (Some (g.T.Tree.shape v.tree)) p)
-    (λ node. node_told node ≡ Splits (plain_token c.args.token) c.args.own c.args.children))
+    (λ node. node_view node ≡ Splits (plain_token c.args.token) c.args.own c.args.children))
     (sym c.self.view_is) c.requires.told in
     rw (slots, ← c.self.view_is) (divide_step (g.T.Tree.shape b.tree.now) b.budget b.slots.items
     (order_of b.slots.items) b.waiting.items b.front.len b.front.count b.front.is_ended b.is_short

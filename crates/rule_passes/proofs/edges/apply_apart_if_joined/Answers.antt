@@ -1,0 +1,5 @@
+use Rattle.closure_terms.proofs.Worked.{worked_as}
+use Rattle.rule_passes.proofs.edges.apply_apart_if_joined.Goals as goal
+
+pub returns : goal.returns
+returns g c = worked_as _ _ _ _ _ _ (λ rule e. e.1) c.aparts.ensures

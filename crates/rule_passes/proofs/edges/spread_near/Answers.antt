@@ -1,5 +1,0 @@
-use Rattle.closure_terms.proofs.Worked.{worked_as}
-use Rattle.rule_passes.proofs.edges.spread_near.Goals as goal
-
-pub returns : goal.returns
-returns g c = worked_as _ _ _ _ _ _ (λ rule e. e.1) c.aparts.ensures

@@ -1,0 +1,160 @@
+use Rattle.std.proofs.Common.{◌≤◌, ◌<◌, ◌-◌, ◌*◌, ◌/◌, ◌∙◌, refl, arith, length}
+use Rattle.packing_terms.specs.Exclusions.{IsEdge}
+use Rattle.rule_terms.proofs.Applied.{extends_refl, extends_trans}
+use Rattle.closure_terms.proofs.Worked.{worked_kept}
+use Rattle.closure_terms.proofs.Settled.{change_edge, trail_short, behind_within, grown_past, settled_all, chained_all}
+use Rattle.closure_terms.proofs.Looked.{looked_step}
+use Rattle.rule_passes.proofs.worklist.drain_worklist.Goals as goal
+
+pub loop-change-init : goal.loop-change-init
+loop-change-init g c = record {
+  same_dims = refl;
+  same_boxes = refl;
+  same_box_capacity = refl;
+  extends = extends_refl _ _;
+  later = omega arith;
+  within = c.requires.mark;
+  looked = c.requires.looked;
+  still = λ e. refl;
+}
+
+pub mask_in-left-requires-clause-edge : goal.mask_in-left-requires-clause-edge
+mask_in-left-requires-clause-edge g c =
+    let s = c.loop-change.state in
+    change_edge s.dims s.boxes s.trail c.loop-change.next _ c.in-Some.change c.dims-sizes.ensures.limits.trail
+    c.in-Some.ensures
+
+pub is_empty_left-requires : goal.is_empty_left-requires
+is_empty_left-requires g c =
+    let s = c.loop-change.state in
+    let edge = change_edge s.dims s.boxes s.trail c.loop-change.next _ c.in-Some.change
+    c.dims-sizes.ensures.limits.trail c.in-Some.ensures in
+    record {
+      sizes = record {
+        same_dims = c.loop-change.invariant.same_dims ∙ c.requires.dims;
+        same_boxes = c.loop-change.invariant.same_boxes ∙ c.requires.boxes;
+        there = omega (arith, edge.dim, c.loop-change.invariant.same_dims, c.requires.dims);
+      };
+      u = omega (arith, edge.first, c.loop-change.invariant.same_boxes, c.requires.boxes);
+      v = omega (arith, edge.second, c.loop-change.invariant.same_boxes, c.requires.boxes);
+      distinct = edge.distinct;
+      left = c.mask_in-left.ensures;
+    }
+
+pub ordered-more-requires-clause-sizes : goal.ordered-more-requires-clause-sizes
+ordered-more-requires-clause-sizes g c =
+    let s = c.loop-change.state in
+    let edge = change_edge s.dims s.boxes s.trail c.loop-change.next _ c.in-Some.change
+    c.dims-sizes.ensures.limits.trail c.in-Some.ensures in
+    record {
+      same_dims = c.loop-change.invariant.same_dims ∙ c.requires.dims;
+      same_boxes = c.loop-change.invariant.same_boxes ∙ c.requires.boxes;
+      there = omega (arith, edge.dim, c.loop-change.invariant.same_dims, c.requires.dims);
+    }
+
+pub ordered-more-requires-clause-dim : goal.ordered-more-requires-clause-dim
+ordered-more-requires-clause-dim g c =
+    let s = c.loop-change.state in
+    let edge = change_edge s.dims s.boxes s.trail c.loop-change.next _ c.in-Some.change
+    c.dims-sizes.ensures.limits.trail c.in-Some.ensures in
+    omega (arith, edge.dim, c.dims-sizes.ensures.limits.dimensions.1)
+
+pub returns-in-Some-long-clause-extends : goal.returns-in-Some-long-clause-extends
+returns-in-Some-long-clause-extends g c =
+    extends_trans _ _ _ _ c.loop-change.invariant.extends c.apply_long_chain.ensures.extends
+
+pub longest_side-most-requires : goal.longest_side-most-requires
+longest_side-most-requires g c =
+    let s = c.loop-change.state in
+    let edge = change_edge s.dims s.boxes s.trail c.loop-change.next _ c.in-Some.change
+    c.dims-sizes.ensures.limits.trail c.in-Some.ensures in
+    omega (arith, edge.dim, c.loop-change.invariant.same_dims, c.requires.dims)
+
+pub spread-requires : goal.spread-requires
+spread-requires g c =
+    let s = c.loop-change.state in
+    let edge = change_edge s.dims s.boxes s.trail c.loop-change.next _ c.in-Some.change
+    c.dims-sizes.ensures.limits.trail c.in-Some.ensures in (
+      omega (arith, c.requires.words.0.1),
+      (
+        c.requires.words,
+        (
+          record {
+            same_dims = c.loop-change.invariant.same_dims ∙ c.requires.dims;
+            same_boxes = c.loop-change.invariant.same_boxes ∙ c.requires.boxes;
+            there = omega (arith, edge.dim, c.loop-change.invariant.same_dims, c.requires.dims);
+          },
+          (
+            omega (arith, edge.first, c.loop-change.invariant.same_boxes, c.requires.boxes),
+            (
+              omega (arith, edge.second, c.loop-change.invariant.same_boxes, c.requires.boxes),
+              (
+                edge.distinct,
+                (
+                  c.requires.all,
+                  (
+                    c.mask_in-left.ensures,
+                    c.longest_side-most.ensures,
+                  ),
+                ),
+              ),
+            ),
+          ),
+        ),
+      ),
+    )
+
+pub loop-change-smaller : goal.loop-change-smaller
+loop-change-smaller g c =
+    let s = c.loop-change.state in
+    let short : length s.trail ≤ 3 * c.args.state.now.dims * c.args.state.now.boxes * (c.args.state.now.boxes - 1) / 2
+    = rw (← c.loop-change.invariant.same_dims, ← c.loop-change.invariant.same_boxes)
+    (trail_short s.dims s.boxes s.trail c.dims-sizes.ensures.limits.trail) in
+    let change = c.in-Some.ensures in
+    let before_last : c.loop-change.next < length s.trail = change.before_last in
+    let past = behind_within s.trail c.loop-change.next _ c.in-Some.change _ before_last
+    c.behind-after.ensures in
+    omega (arith, short, before_last, past.0)
+
+pub loop-change-preserved : goal.loop-change-preserved
+loop-change-preserved g c =
+    let s = c.loop-change.state in
+    let change = c.in-Some.ensures in
+    let edge = change_edge s.dims s.boxes s.trail c.loop-change.next _ c.in-Some.change
+    c.dims-sizes.ensures.limits.trail change in
+    let work = worked_kept _ _ _ _ _ c.if-spread.false c.spread.ensures in
+    let past = behind_within s.trail c.loop-change.next _ c.in-Some.change _ change.before_last
+    c.behind-after.ensures in
+    let here : IsEdge c.args.instance.now c.in-Some.change.dim c.in-Some.change.u c.in-Some.change.v
+    = record {
+      dim = omega (arith, edge.dim, c.loop-change.invariant.same_dims, c.requires.dims);
+      first = omega (arith, edge.first, c.loop-change.invariant.same_boxes, c.requires.boxes);
+      second =
+          omega (arith, edge.second, c.loop-change.invariant.same_boxes, c.requires.boxes);
+      distinct = edge.distinct;
+    } in
+    record {
+      same_dims = work.same_dims ∙ c.loop-change.invariant.same_dims;
+      same_boxes = work.same_boxes ∙ c.loop-change.invariant.same_boxes;
+      same_box_capacity = work.same_box_capacity ∙ c.loop-change.invariant.same_box_capacity;
+      extends = extends_trans _ _ _ _ c.loop-change.invariant.extends work.extends;
+      later = omega (arith, c.loop-change.invariant.later, past.0);
+      within = grown_past c.args.instance.now _ _ _ _ _ _ work.extends change.before_last c.behind-after.ensures;
+      looked = looked_step c.args.instance.now _ _ c.in-Some.change _ _ _ _ _ here c.if-is_empty_left.ensures work
+          change
+          c.behind-after.ensures
+          c.ordered-more.ensures.clean c.ordered-more.ensures.unordered c.ordered-more.ensures.within
+          c.loop-change.invariant.looked;
+      still = λ e. absurd (omega (arith, e, c.loop-change.invariant.later, past.0));
+    }
+
+pub returns-then-spread-clause-extends : goal.returns-then-spread-clause-extends
+returns-then-spread-clause-extends g c = extends_trans _ _ _ _ c.loop-change.invariant.extends c.spread.ensures.extends
+
+pub returns-clause-looked : goal.returns-clause-looked
+returns-clause-looked g c =
+    let looked = c.loop-change.invariant.looked in record {
+      settled = settled_all _ _ _ c.in_default.ensures looked.settled;
+      chained = λ i h off. chained_all _ i _ _ c.in_default.ensures (looked.chained i h off);
+      within = looked.within;
+    }

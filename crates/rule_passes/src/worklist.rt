@@ -1,0 +1,136 @@
+//! Going along what changed: the worklist is the newer part of the state's list of exclusions.
+ghost use Rattle.std.specs.Prelude.{◌≡◌, ◌<◌, ◌≤◌, ◌+◌, ◌-◌, ◌⊎◌, ℕ, true, false, not, nat_lt, length, drop, MatchOption, IfSome};
+ghost use Rattle.packing_terms.specs.Packing.{dims, box_count};
+ghost use Rattle.packing_terms.specs.declared.Rel.{Rel as PlainRel};
+ghost use Rattle.packing_terms.specs.Exclusions.{excludes};
+ghost use Rattle.relation_table.specs.Masks.{mask_has};
+ghost use Rattle.rule_terms.specs.Applied.{Extends};
+ghost use Rattle.edge_state.specs.BitRows.{HoldsBoxes, row_has};
+ghost use Rattle.edge_state.specs.Answers.{IsChangeAfter};
+ghost use Rattle.edge_state.specs.Edges.{oldest};
+ghost use Rattle.closure_terms.specs.States.{IsSized, HasEmptyMask};
+ghost use Rattle.closure_terms.specs.Work.{IsUnordered, IsNextMark};
+ghost use Rattle.closure_terms.specs.Work.{IsWorklistDone};
+ghost use Rattle.early_chains.specs.Lines.{IsTooLong};
+
+use crate::dispatch::spread;
+use crate::empties::is_empty_left;
+use box_instances::Instance;
+use early_chains::{ChainEstimates, apply_long_chain};
+use edge_state::{BitRow, EdgeState, Exclusion, Mark, Mask, Rel};
+
+// The position of the list behind a change, and behind the next one too if that is at the same
+// edge: a rule that leaves one relation makes two changes, which are looked through together.
+// Beside it the relations whose exclusion is stale: those that neither change excludes.
+fn behind(state: &EdgeState, mark: Mark, change: Exclusion) -> (Mark, Mask)
+    requires { IsChangeAfter state.now.trail mark change (mark + 1) }
+    ensures { IsNextMark state.now.trail mark change (λ r. not (mask_has result.1 r)) result.0 }
+{
+    let after = state.mark_after(mark);
+    let stale = Mask::all().without(change.rel);
+    let Some(next) = state.change_after(after) else {
+        return (after, stale);
+    };
+    if next.dim != change.dim || next.u != change.u || next.v != change.v {
+        return (after, stale);
+    }
+    (state.mark_after(after), stale.without(next.rel))
+}
+
+// Whether one of the two boxes of a change, whose mask is given, is surely before the other now.
+#[inline]
+fn orders(state: &EdgeState, change: Exclusion, left: Mask) -> bool
+    requires { (r : PlainRel) → mask_has left r
+        ≡ not (excludes state.now.trail change.dim change.u change.v r) }
+    ensures { result ≡ false → IsUnordered (excludes state.now.trail) change }
+{
+    !left.has(Rel::Overlap) & !(left.has(Rel::Before) & left.has(Rel::After))
+}
+
+// The dimensions in which CHAIN is to be looked at, with that of a change that orders its boxes. If
+// it does, two boxes come with them where a chain is found that is too long.
+#[inline(always)]
+fn ordered<const K: usize>(
+    instance: &Instance,
+    state: &EdgeState,
+    guess: &mut ChainEstimates,
+    dirty: BitRow<1>,
+    change: Exclusion,
+    left: Mask,
+) -> (BitRow<1>, Option<(u32, u32)>)
+    requires words { HoldsBoxes K (box_count instance.now) }
+    requires sizes { IsSized instance.now state.now change.dim }
+    requires dim { change.dim < 4 }
+    requires left { (r : PlainRel) → mask_has left r
+        ≡ not (excludes state.now.trail change.dim change.u change.v r) }
+    ensures clean { (i : ℕ) → row_has result.0 i ≡ false → row_has dirty i ≡ false }
+    ensures unordered { (i : ℕ) → row_has result.0 i ≡ false → change.dim ≡ i
+        → IsUnordered (excludes state.now.trail) change }
+    ensures within { (i : ℕ) → row_has result.0 i ≡ true → (i ≡ change.dim)
+        ⊎ (row_has dirty i ≡ true) }
+    ensures long { IfSome result.1
+        (λ p. IsTooLong instance.now (excludes state.now.trail) change.dim p.0 p.1) }
+{
+    let (dim, u, v) = (change.dim, change.u, change.v);
+    if !orders(state, change, left) {
+        return (dirty, None);
+    }
+    let more = dirty.with(dim);
+    if left.has(Rel::Before) {
+        return (more, guess.find_long_chain::<K>(instance, state, dim, u, v));
+    }
+    (more, guess.find_long_chain::<K>(instance, state, dim, v, u))
+}
+
+/// Looks through the exclusions that came after a position of the list, and those that follow, the
+/// oldest first. Afterwards no rule but CHAIN adds anything, and CHAIN only in the dimensions of
+/// the answer; to those that were given come those in which two boxes became ordered. `None` comes
+/// where a mask is empty. `guess` has the weights of chains as they are thought to be.
+pub(crate) fn drain_worklist<const K: usize>(
+    instance: &Instance,
+    state: &mut EdgeState,
+    all: BitRow<K>,
+    closed: Mark,
+    dirty: BitRow<1>,
+    guess: &mut ChainEstimates,
+) -> Option<BitRow<1>>
+    requires words { HoldsBoxes K (box_count instance.now) }
+    requires dims { state.old.dims ≡ dims instance.now }
+    requires boxes { state.old.boxes ≡ box_count instance.now }
+    requires all { (x : ℕ) → row_has all x ≡ nat_lt x (box_count instance.now) }
+    requires mark { closed ≤ length state.old.trail }
+    requires looked { IsWorklistDone instance.now
+        (oldest closed state.old.trail) state.old.trail dirty }
+    ensures sizes { state.new ≡ record state.old { trail = state.new.trail } }
+    ensures extends { Extends instance.now state.old.trail state.new.trail }
+    ensures looked { MatchOption result (HasEmptyMask instance.now (excludes state.new.trail))
+        (IsWorklistDone instance.now state.new.trail state.new.trail) }
+    ensures still { MatchOption result (Unit {0})
+        (λ more. closed ≡ length state.new.trail → more ≡ dirty) }
+{
+    let mut next = closed;
+    let mut chains = dirty;
+    while let Some(change) = state.change_after(next) {
+        // For the proof alone: tells the limits of the state.
+        let _sizes = state.dims();
+        let left = state.mask_in::<K>(change.dim, change.u, change.v);
+        if is_empty_left(instance, state, change.dim, change.u, change.v, left) {
+            return None;
+        }
+        let (more, long) = ordered::<K>(instance, state, guess, chains, change, left);
+        if let Some((a, b)) = long {
+            apply_long_chain(instance, state, change.dim, a, b);
+            return None;
+        }
+        let (after, stale) = behind(state, next, change);
+        let most = instance.longest_side(change.dim);
+        if spread(
+            instance, state, all, change.dim, change.u, change.v, left, stale, most,
+        ) {
+            return None;
+        }
+        next = after;
+        chains = more;
+    }
+    Some(chains)
+}
