@@ -121,7 +121,7 @@ cond_on b x y e = rw e refl
 
 -- ---- steps
 
--- at most so many from the front
+-- at most `k` elements from the beginning
 abbrev pub first : {A : Type 0} → ℕ → List A → List A
 first k [] = []
 first zero (x ∷ xs) = []
@@ -201,7 +201,7 @@ first_point cs (p ∷ ps) x l e f =
     (step_lines cs (plain_point p ∷ map plain_point ps)) one)
     ∙ text_append (point_lines (plain_point p)) (step_lines cs (map plain_point ps)))
 
--- all places are there where so many were written
+-- all places are there where those of `k` boxes were written
 pub places_all : (xs : List ℕ) (k : ℕ) → length xs ≡ 2 * k
     → text_of (place_lines (take (2 * k) xs)) ≡ text_of (place_lines xs)
 places_all xs k e = ap (λ n. text_of (place_lines (take n xs))) (sym e)

@@ -93,7 +93,7 @@ IsTrueVerdict text (ExplainedVerdictOf (Err refusal)) = ⊥
 IsTrueVerdict text (FrontVerdictOf (Ok r)) = IsTrueFrontRead text r
 IsTrueVerdict text (FrontVerdictOf (Err refusal)) = ⊥
 
--- ---- what is told
+-- ---- what is reported
 
 abbrev pub explained_text : ExplainedVerdict → List ℕ
 explained_text Verified = codes "verified explained fit no\n"
@@ -137,7 +137,7 @@ IsFrontToldAs verdict (VerifiedFront complete points) =
     ≡ Ok (record { instance = instance; claim = record { complete = complete; points = points } }))
 IsFrontToldAs verdict (RefusedFront line reason) = verdict ≡ Err (record { line = line; reason = reason })
 
--- the verdict is told by its line and its status
+-- the verdict is reported by its line and its status
 pub record IsToldAs (verdict : KindVerdict) (told : AuditedVerdict) : Type 0 where
   pub line : verdict_text told ≡ audit_line verdict
   pub status : told_status told ≡ audit_status verdict

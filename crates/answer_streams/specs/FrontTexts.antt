@@ -32,6 +32,6 @@ point_at [] k = []
 point_at (p ∷ points) zero = point_lines p
 point_at (p ∷ points) (suc k) = point_at points k
 
--- each point has a place of two coordinates for so many boxes
+-- each point has a place of two coordinates for each of `boxes` boxes
 abbrev pub AreAllPlaced : ℕ → List Point → Type 0
 AreAllPlaced boxes points = AllByRecursion (λ p. length p.places.items ≡ 2 * boxes) points

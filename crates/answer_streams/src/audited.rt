@@ -45,7 +45,7 @@ impl AuditedVerdict {
     }
 }
 
-// The end of the line that tells a code, from the space on.
+// The end of the line that states a code, from the space on.
 fn code_text(code: AuditCode) -> &'static [u8]
     ensures { result.now ≡ audit_code_end code }
 {
@@ -61,7 +61,7 @@ fn code_text(code: AuditCode) -> &'static [u8]
     }
 }
 
-// Writes the end of the line that tells a reason, from the space on.
+// Writes the end of the line that states a reason, from the space on.
 fn write_explained_reason<K: Sink>(
     sink: &mut K,
     so_far: Written,

@@ -12,8 +12,8 @@ use std::marker::{Brand, PhantomData};
 // What is offered to the sink behind at once.
 const BLOCK: usize = 4096;
 
-/// Which sink stands behind a front: the ghost name of the reference to it, and what was written to
-/// it at first.
+/// Which sink stands behind a buffer: the ghost name of the reference to it, and what was written
+/// to it at first.
 pub trait SinkBrand {
     ghost use Rattle.std.specs.Prelude.{ℕ, List};
     ghost use Rattle.std.specs.declared.option.Option.{Option};
@@ -31,7 +31,7 @@ impl SinkBrand for Brand {
     ghost begun = { None };
 }
 
-/// A sink that is handed back, with what became of the text that was written to it.
+/// A sink that is returned, with what became of the text that was written to it.
 #[derive(Drop)]
 pub struct Flushed<'a, K> {
     pub out: &'a mut K,
@@ -83,7 +83,8 @@ fn give_part<K: Sink>(out: &mut K, block: &[u8], start: usize, end: usize) -> us
     give(out, &block[start..end])
 }
 
-// Puts the front of the piece into the block, from `end` on, and answers how many bytes found room.
+// Puts the beginning of the piece into the block, from `end` on, and answers how many bytes found
+// room.
 fn put(block: &mut [u8], end: usize, piece: &[u8]) -> usize
     requires { end ≤ length block.old }
     ensures count { result ≡ min (length piece.now) (length block.old - end) }
@@ -134,7 +135,7 @@ impl<'a, K: Sink, B: SinkBrand> BlockBuffer<'a, K, B> {
     }
 }
 
-/// A front before the sink, which is named by the ghost name of the reference to it. Nothing is
+/// A buffer before the sink, which is named by the ghost name of the reference to it. Nothing is
 /// held back yet.
 pub(crate) fn buffer_over<'a, K: Sink, B: SinkBrand>(out: &'a mut K) -> BlockBuffer<'a, K, B>
     requires name { out.ghost_name ≡ B.name }
@@ -153,7 +154,7 @@ pub(crate) fn buffer_over<'a, K: Sink, B: SinkBrand>(out: &'a mut K) -> BlockBuf
     }
 }
 
-// The sink behind a front, with what became of the text.
+// The sink behind a buffer, with what became of the text.
 fn unwrap_sink<'a, K: Sink, B: SinkBrand>(
     front: BlockBuffer<'a, K, B>,
     written: Result<(), WriteFault>,
@@ -175,8 +176,8 @@ fn unwrap_sink<'a, K: Sink, B: SinkBrand>(
     }
 }
 
-/// Hands back the sink behind a front to which a text was written. Where all of it was, what is
-/// held back is given on first.
+/// Returns the sink behind a buffer to which a text was written. Where all of the text was written,
+/// what is held back is passed on first.
 pub(crate) fn flush_and_unwrap<'a, K: Sink, B: SinkBrand>(
     mut front: BlockBuffer<'a, K, B>,
     written: Result<(), WriteFault>,

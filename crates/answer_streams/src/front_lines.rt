@@ -40,7 +40,7 @@ pub(crate) fn write_corner<K: Sink>(sink: &mut K, so_far: Written, corner: &Corn
     write_tokens_on(sink, named, &corner.tokens)
 }
 
-// Writes places of so many boxes.
+// Writes places of `boxes` boxes.
 fn write_places<K: Sink>(sink: &mut K, so_far: Written, boxes: u32, places: &[u32]) -> Written
     requires { length places.now ≡ 2 * boxes }
     ensures { Continues (K.written sink.old) (K.written sink.new) (K.faults sink.old)
@@ -54,7 +54,7 @@ fn write_places<K: Sink>(sink: &mut K, so_far: Written, boxes: u32, places: &[u3
     now
 }
 
-/// Writes a point, and the places of so many boxes.
+/// Writes a point, and the places of `boxes` boxes.
 pub(crate) fn write_point<K: Sink>(
     sink: &mut K,
     so_far: Written,

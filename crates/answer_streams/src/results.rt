@@ -79,7 +79,7 @@ pub(crate) fn write_none_line<K: Sink>(
         (K.faults sink.new)
         (codes "result none\n" ++ token_line (TooLarge (box_no + 1) (dim + 1))) so_far result }
 {
-    // For the proof alone: tells the limits of the instance.
+    // For the proof alone: states the limits of the instance.
     let _boxes = instance.len();
     let said = write_on(sink, so_far, b"result none\n");
     let token = Token::TooLarge {

@@ -59,7 +59,7 @@ impl<'a> Streamed for AnswerDocument<'a> {
     }
 }
 
-// Writes the text through a front before the sink, which is named by the ghost name of the
+// Writes the text through a buffer before the sink, which is named by the ghost name of the
 // reference to it.
 fn write_through<'a, K: Sink, T: Streamed, B: SinkBrand>(out: &'a mut K, text: &T) -> Flushed<'a, K>
     requires ready { T.IsReady text.now }

@@ -136,7 +136,7 @@ fn write_bounded<K: Sink>(sink: &mut K, claim: Claim) -> Written
     write_claim(sink, named, claim)
 }
 
-// The end of the line that tells a code, from the space on.
+// The end of the line that states a code, from the space on.
 fn code_text(code: RefuseCode) -> &'static [u8]
     ensures { result.now ≡ code_end code }
 {
@@ -153,7 +153,7 @@ fn code_text(code: RefuseCode) -> &'static [u8]
     }
 }
 
-// Writes the end of the line that tells a reason, from the space on.
+// Writes the end of the line that states a reason, from the space on.
 fn write_reason<K: Sink>(sink: &mut K, so_far: Written, reason: Reason) -> Written
     ensures { Continues (K.written sink.old) (K.written sink.new) (K.faults sink.old)
         (K.faults sink.new)

@@ -62,7 +62,7 @@ tally_more (suc n) p q v l f t h = go (cases_lt v n) (tally_more n p q v)
 same_box : (v : ℕ) → eqb v v ≡ true
 same_box v = eq-eqb v v refl
 
--- a set of boxes of the instance, of at most so many
+-- a set of at most `2 * max_boxes` boxes of the instance
 subset_bounded : (instance : PlainInstance) (keep : List ℕ) → IsBounded instance → length keep ≤ 2 * max_boxes
     → IsBounded (subset instance keep)
 subset_bounded instance keep b few = record {

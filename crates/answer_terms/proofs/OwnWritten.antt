@@ -43,7 +43,7 @@ tokens_are_lines d (t ∷ ts) h = (tokens_are_read_back d t h.0, tokens_are_line
 
 -- ---- refutations
 
--- Few dimensions, few boxes, and no long container side. A set is told to have at most twice as
+-- Few dimensions, few boxes, and no long container side. A set is known to have at most twice as
 -- many boxes as there are, which is few enough.
 pub record IsBounded (instance : PlainInstance) : Type 0 where
   pub dimensions : dims instance ≤ 4

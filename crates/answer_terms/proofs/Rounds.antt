@@ -22,7 +22,7 @@ module _ (instance : PlainInstance) where
   AreRightSizes answer = (a b : ℕ) → 1 ≤ a → a ≤ written_container instance 0 → b ≤ written_container instance 1
       → IsRightSize a b (answer a b)
 
-  -- the container is refuted, or its width is 0; the like for heights
+  -- the container is refuted, or its width is 0; `IsLow` says the same of its height
   abbrev pub IsNarrow : ℕ → ℕ → List PlainToken → Type 0
   IsNarrow h a tokens = (a ≡ 0) ⊎ Refutes (with_container instance a h) [] tokens
 

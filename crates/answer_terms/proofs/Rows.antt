@@ -204,7 +204,7 @@ made_text_of_0 =
     ∙ (ap (λ count. made_bytes (codes "0") count (decimal 52341)) (decimal_digit 1 (omega arith))
     ∙ ap (λ volume. made_bytes (codes "0") (codes "1") volume) volume_of_0)
 
--- what is told of its class tree
+-- the answer by the outcome of its class tree
 made_answer_of_0 : made_answer 0 0 true
     ≡ record { status = 0; text = made_text 0 (made_instance 0) 0 (Decided (Yes (0 ∷ 0 ∷ []) 0)) }
 unfolding made_instance

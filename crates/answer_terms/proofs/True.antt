@@ -125,7 +125,7 @@ abbrev is_undecided : Answer → Bool
 is_undecided Undecided = true
 is_undecided (Claimed claim numbers tokens) = false
 
--- what is told of a tree is undecided exactly where its count is past the budget
+-- the outcome of a tree under a budget is undecided exactly where the tree's count is past the budget
 module _ (budget : ℕ) where
   claimed : (v : Verdict) → ¬ (fit_answer (Decided v) ≡ Undecided)
   claimed (Yes ns c) e = true≢false (sym (ap is_undecided e))

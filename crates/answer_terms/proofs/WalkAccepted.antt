@@ -147,7 +147,7 @@ module _ (instance : PlainInstance) (limits : IsInternalInstance instance) (plan
   some_width = (limits.container.others 0 (omega (arith, plane))).0
 
   module _ (answer : ℕ → ℕ → PlainLevel) (right : AreRightSizes instance answer) where
-    -- what the rounds of so many turns give
+    -- what at most `fuel` rounds give
     abbrev IsGoodWalk : ℕ → Type 0
     IsGoodWalk fuel = (h a : ℕ) (ts : List PlainToken) → h < fuel → 1 ≤ h → h ≤ written_container instance 1 → 1 ≤ a
         → a ≤ written_container instance 0

@@ -1,5 +1,5 @@
 -- The answer of the job `make`: the made instance of a number is decided as by `fit`, and three
--- lines tell of it.
+-- lines report it.
 --
 --     made 0 boxes 1 volume 52341          the number, its boxes and their volume
 --     fit yes                              or no, or undecided
@@ -32,7 +32,7 @@ made_words number instance =
     codes "made" ∷ decimal number ∷ codes "boxes" ∷ decimal (box_count instance) ∷ codes "volume"
     ∷ decimal (total_volume instance) ∷ []
 
--- the three lines: of a number and its instance, and of what is told of its class tree under a
+-- the three lines: of a number and its instance, and of the outcome of its class tree under a
 -- budget
 abbrev pub made_lines : ℕ → PlainInstance → ℕ → PlainOutcome → Lines
 made_lines number instance budget decision =

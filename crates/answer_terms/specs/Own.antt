@@ -29,7 +29,7 @@ pub record IsDocumentAbout (instance : PlainInstance) (text : List ℕ) (claim :
   pub document : IsDocument text claim
   pub about : document.instance ≡ instance
 
--- whoever found the numbers and the tokens, the text is a document of the claim about the instance
+-- no matter who found the numbers and the tokens, the text is a document of the claim about the instance
 abbrev pub ShownClaimsHaveDocuments : Type 0
 ShownClaimsHaveDocuments = (instance : PlainInstance) (claim : Claim) (numbers : List ℕ) (tokens : List PlainToken)
     → IsInstance instance

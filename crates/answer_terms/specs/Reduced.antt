@@ -23,7 +23,7 @@ use Rattle.answer_terms.specs.declared.job.DocumentJob.TheVariants.{Solving, Red
 use Rattle.answer_terms.specs.declared.job.ReducedJob.{ReducedJob}
 use Rattle.answer_terms.specs.declared.job.ReducedJob.TheVariants.{Fit, Strip}
 
--- what is told of the class tree that begins with the symmetry facts
+-- the outcome under the budget of the class tree that begins with the symmetry facts
 abbrev pub reduced_outcome : ℕ → Bool → PlainInstance → PlainOutcome
 reduced_outcome budget scales instance = under_budget budget (outcome (class_tree instance (symmetry_facts instance) scales))
 

@@ -1,5 +1,5 @@
--- The answer of each solving job for an instance, from what is told of its tree, or from the run of
--- its levels. The number of workers has no part.
+-- The answer of each solving job for an instance, from the outcome of its tree under the budget, or
+-- from the run of its levels. The number of workers has no part.
 use Rattle.std.specs.Prelude.{ℕ, suc, Bool, true, false, List, [], ◌∷◌, Option, Some, None}
 use Rattle.packing_terms.specs.Packing.{PlainInstance}
 use Rattle.packing_terms.specs.Tokens.PlainToken.{TooLarge}
@@ -15,7 +15,7 @@ use Rattle.document_terms.specs.declared.claim.Claim.TheVariants.{GreatestValue,
 use Rattle.answer_terms.specs.Answers.{Answer, status_of, answer_text}
 use Rattle.answer_terms.specs.Answers.Answer.{Undecided, Claimed}
 
--- by what is told of the class tree
+-- by the outcome of the class tree
 abbrev pub fit_answer : PlainOutcome → Answer
 fit_answer (Decided (Yes numbers count)) = Claimed Fitting numbers []
 fit_answer (Decided (No tokens count)) = Claimed NotFitting [] tokens

@@ -107,7 +107,7 @@ module _ (answer : ℕ → ℕ → PlainLevel) (most : ℕ) where
       let widths = width_run height refuted tokens places in
       round_by_widths walk height widths (spent_front refuted height tokens) widths.spent
 
-  -- so many rounds at most
+  -- a walk of at most a given number of rounds
   abbrev pub walk_on : ℕ → ℕ → ℕ → List PlainToken → PlainFront
   walk_on zero height refuted tokens = whole_front
   walk_on (suc more) height refuted tokens = round_by (walk_on more) height refuted tokens (answer most height)

@@ -2,7 +2,7 @@
 ghost use Rattle.answer_terms.specs.Own.{ShownClaimsHaveDocuments, OwnDocumentsAreVerified, OnlyFitIsUndecided, UndecidedIsRefused, OwnReducedDocumentsAreVerified, OnlyReducedFitIsUndecided, ReducedUndecidedIsRefused, OwnExplanationsAreVerified};
 
 /// Where numbers and tokens show a claim about an instance, the text with them is a document of the
-/// claim, and the instance in it is that one, whoever found them.
+/// claim, and the instance in it is that one, no matter who found them.
 pub fn shown_claims_have_documents()
     ensures { ShownClaimsHaveDocuments }
 {}
@@ -43,7 +43,7 @@ pub fn reduced_undecided_is_refused()
 {}
 
 /// The document that explains a refutation step by step is verified as an explained document, and
-/// the instance in it is the asked one, whoever found the steps.
+/// the instance in it is the asked one, no matter who found the steps.
 pub fn own_explanations_are_verified()
     ensures { OwnExplanationsAreVerified }
 {}

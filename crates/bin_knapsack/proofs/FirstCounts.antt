@@ -1,4 +1,4 @@
--- What is told of the bin tree for no bins.
+-- The count of the bin tree for no bins.
 use Rattle.std.proofs.Common.{◌≡◌, ℕ, zero, suc, ◌+◌, ◌*◌, ◌^◌, ◌≤◌, refl, arith, pow-suc}
 use Rattle.packing_terms.specs.Sums.{sum_below}
 

@@ -11,7 +11,7 @@ use Rattle.tree_terms.specs.RunEnds.{HasBinCountPastBudget}
 use Rattle.bin_knapsack.specs.declared.bins.Bins.{Bins}
 use Rattle.bin_knapsack.specs.declared.bins.Bins.TheVariants.{Least, Between, NoneFits}
 
--- the answer tells where a run of numbers of bins ended
+-- the answer states where a run of numbers of bins ended
 abbrev pub Tells : PlainReached → Bins → Type 0
 Tells r (Least bins numbers tokens) =
     r ≡ record {
@@ -47,8 +47,8 @@ pub record IsCertifiedLeast (instance : PlainInstance) (bins : ℕ) (numbers : L
   pub packed : AreBinNumbers instance bins numbers
   pub refuted : IsBinRefutation instance (bins - 1) tokens
 
--- so many bins as are refuted don't hold the boxes, nor do fewer, and the placed number does, with
--- both certificates
+-- the boxes don't fit in `refuted` bins or fewer, and they fit in `bins` bins, with both
+-- certificates
 pub record IsCertifiedBetween (instance : PlainInstance) (refuted : ℕ) (tokens : List PlainToken) (bins : ℕ)
     (numbers : List ℕ) : Type 0 where
   pub order : refuted < bins

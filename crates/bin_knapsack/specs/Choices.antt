@@ -10,7 +10,7 @@ use Rattle.tree_terms.specs.RunEnds.{HasValuePastBudget}
 use Rattle.bin_knapsack.specs.declared.choice.Choice.{Choice}
 use Rattle.bin_knapsack.specs.declared.choice.Choice.TheVariants.{Greatest, Between}
 
--- the answer tells where a run of values ended
+-- the answer states where a run of values ended
 abbrev pub Tells : PlainReached → Choice → Type 0
 Tells r (Greatest value numbers tokens) =
     r ≡ record {

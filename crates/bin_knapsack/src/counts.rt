@@ -32,7 +32,7 @@ pub fn decide_bins<R: Threads + Wait + Sync, G: Gate + Sync>(
     ensures level { IfOk result (λ r. plain_level r
         ≡ bin_answer instance.now settings.now.budget settings.now.scales bins) }
 {
-    // For the proof alone: tells the limits of the instance.
+    // For the proof alone: states the limits of the instance.
     let _limits = instance.len();
     let tree = BinTree::new(alloc, instance, bins, settings.scales)?;
     let outcome = tree.solve_with(rt, alloc, search, settings, gate)?;

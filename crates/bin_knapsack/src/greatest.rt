@@ -59,7 +59,7 @@ fn bisect_values<R: Threads + Wait + Sync, G: Gate + Sync>(
     ensures { IfOk result (λ r. plain_reached r
         ≡ value_run instance.now settings.now.budget settings.now.scales) }
 {
-    // For the proof alone: tells the limits of the instance.
+    // For the proof alone: states the limits of the instance.
     let _limits = instance.len();
     let mut search = SetSearch::new(alloc, instance, settings.scales)?;
     let mut reached = first_values(alloc, instance)?;
@@ -114,7 +114,7 @@ pub fn greatest_value<R: Threads + Wait + Sync, G: Gate + Sync>(
         * (2 ^ (box_count instance.now + 1) - 2) ≤ settings.now.budget
         → IfOk result (λ c. IsFinal c) }
 {
-    // For the proof alone: tells the limits of the instance.
+    // For the proof alone: states the limits of the instance.
     let _limits = instance.len();
     let reached = bisect_values(rt, alloc, instance, settings, gate)?;
     Ok(told(reached))

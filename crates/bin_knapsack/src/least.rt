@@ -30,7 +30,7 @@ fn no_bins(alloc: Global, instance: &Instance, scales: bool) -> Result<CompactTo
     ensures { IfOk result (λ tokens. tokens
         ≡ (first_bins instance.now scales).tokens) }
 {
-    // For the proof alone: tells the limits of the instance.
+    // For the proof alone: states the limits of the instance.
     let _limits = instance.len();
     let tree = BinTree::new(alloc, instance, 0, scales)?;
     match tree.explore(alloc, &[], 0)? {
@@ -56,7 +56,7 @@ fn bisect_bins<R: Threads + Wait + Sync, G: Gate + Sync>(
     ensures { IfOk result (λ r. plain_reached r
         ≡ bin_run instance.now settings.now.budget settings.now.scales) }
 {
-    // For the proof alone: tells the limits of the instance.
+    // For the proof alone: states the limits of the instance.
     let _limits = instance.len();
     let mut search = SetSearch::new(alloc, instance, settings.scales)?;
     let numbers = one_box_per_bin(alloc, instance)?;
@@ -118,7 +118,7 @@ pub fn least_bins<R: Threads + Wait + Sync, G: Gate + Sync>(
         ≤ settings.now.budget
         → IfOk result (λ b. IsFinal b) }
 {
-    // For the proof alone: tells the limits of the instance.
+    // For the proof alone: states the limits of the instance.
     let _limits = instance.len();
     match first_too_large(instance) {
         Some((box_no, dim)) => Ok(Bins::NoneFits { box_no, dim }),

@@ -1,4 +1,4 @@
--- A child at the end of a path, by the verdict on its changed bin; and what is told of nodes.
+-- A child at the end of a path, by the verdict on its changed bin; and what is reported of nodes.
 use Rattle.std.proofs.Common.{◌≡◌, ℕ, suc, ◌+◌, ◌<◌, ◌≤◌, ◌⊎◌, inl, inr, refl, sym, ap, ◌∙◌, arith, Bool, true, false}
 use Rattle.std.proofs.Common.{List, [], ◌∷◌, ◌++◌, length, drop, get_or, Some, ltb, if◌then◌else◌}
 use Rattle.std.proofs.lemmas.Bool.{cases_Bool, ltb-true, lt-ltb}
@@ -23,14 +23,14 @@ use Rattle.bin_search.proofs.Placements.{few_children}
 use Rattle.bin_search.proofs.Placing.{grown_set, next_placed}
 use Rattle.bin_search.proofs.Walking.{child_counts}
 
--- a node whose own count is past every budget is told as a leaf, and so is one with no box left
+-- a node whose own count is past every budget is reported as a leaf, and so is one with no box left
 past_told : (instance : PlainInstance) (scales : Bool) (k : ℕ) (rest : List ℕ) (bins : Bins) (answers : List (List ℕ))
     (own : ℕ) → max_budget < own
     → node_view (bin_node instance scales k rest bins answers own) ≡ Leaf
 past_told instance scales k [] bins answers own l = refl
 past_told instance scales k (v ∷ vs) bins answers own l = rw (lt-ltb max_budget own l) refl
 
--- a node with a box left is told as a split
+-- a node with a box left is reported as a split
 pub split_told : (instance : PlainInstance) (scales : Bool) (k placed : ℕ) (bins : Bins) (answers : List (List ℕ))
     (own : ℕ) → placed < length (ranked instance) → own ≤ max_budget
     → Splits (Assign (suc (box_at instance placed))) own (length (placements k bins (box_at instance placed)))

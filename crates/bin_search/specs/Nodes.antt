@@ -18,8 +18,8 @@ use Rattle.bin_search.specs.Lists.{lists_of, list_before, restored}
 abbrev pub child_count : ℕ → List (List ℕ) → ℕ
 child_count k bins = if nat_lt (length bins) k then length bins + 1 else length bins
 
--- so many boxes by rank have bins, at most k of them: each other box is left, the boxes of each bin
--- rise, and its answer is a packing of them
+-- the first `placed` boxes by rank have bins, at most `k` bins in all: each other box is left, the
+-- boxes of each bin rise, and its answer is a packing of them
 pub record AreInBins (instance : PlainInstance) (k placed : ℕ) (bins : Bins) (answers : List (List ℕ)) : Type 0 where
   pub there : placed ≤ length (ranked instance)
   pub rest : AreBoxes instance (drop placed (ranked instance))

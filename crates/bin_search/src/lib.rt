@@ -1,5 +1,5 @@
-//! The bin tree, which looks for a packing in so many bins, and its exploration with a stack of its
-//! own.
+//! The bin tree, which looks for a packing in a given number of bins, and its exploration with a
+//! stack of its own.
 #![tactic(auto)]
 
 mod lists;

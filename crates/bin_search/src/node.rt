@@ -14,9 +14,9 @@ use proof_tree::CompactTokens;
 use set_search::{Child, SetSearch};
 use std::alloc::Global;
 
-// A node: so many boxes by rank have bins; the used bins in the order of their first use, the boxes
-// of each by rising number, with the answers of their class trees; and the number of its children
-// that have been visited.
+// A node: the first `placed` boxes by rank have bins; the used bins in the order of their first
+// use, the boxes of each by rising number, with the answers of their class trees; and the number of
+// its children that have been visited.
 #[derive(Drop)]
 pub struct Placed {
     pub placed: usize,

@@ -23,7 +23,7 @@ use set_search::{Child, MAX_BUDGET, SetSearch, with_box};
 use std::alloc::Global;
 use work_share::Node;
 
-// The last step of a path: into the child of this number of a node at which so many boxes have
+// The last step of a path: into the child of this number of a node at which `placed` boxes have
 // these bins.
 #[derive(Drop)]
 pub struct Step {
@@ -206,8 +206,8 @@ pub(crate) fn explore_step(
     }
 }
 
-// What is told of a node at which so many boxes have bins, whose own count is within the greatest
-// budget.
+// What is reported of a node at which `placed` boxes have bins, whose own count is within the
+// greatest budget.
 pub(crate) fn tell(
     instance: &Instance,
     order: &[u32],
@@ -225,7 +225,7 @@ pub(crate) fn tell(
         (bin_node instance.now scales most (drop placed (ranked instance.now))
         (lists_of bins.now) answers own) }
 {
-    // For the proof alone: tells the limits of the instance.
+    // For the proof alone: states the limits of the instance.
     let _limits = instance.len();
     if placed == order.len() {
         return Node::Leaf;
@@ -237,7 +237,7 @@ pub(crate) fn tell(
     }
 }
 
-// What is told of the child at the end of a path.
+// What is reported of the child at the end of a path.
 pub(crate) fn tell_step(
     alloc: Global,
     search: &mut SetSearch<'_>,

@@ -10,7 +10,7 @@ use conservative_scales::first_exceeding;
 use proof_tree::Token;
 use std::alloc::Global;
 
-// The token of the first tuple of scale functions that exceeds for so many bins, where scales are
+// The token of the first tuple of scale functions that exceeds for `bins` bins, where scales are
 // wanted.
 pub(crate) fn scales_token(
     alloc: Global,
@@ -23,7 +23,7 @@ pub(crate) fn scales_token(
     ensures { MatchOption result (first_exceeding instance.now bins scales ≡ None)
         (λ token. IsExcess (first_exceeding instance.now bins scales) token) }
 {
-    // For the proof alone: tells the limits of the instance.
+    // For the proof alone: states the limits of the instance.
     let _limits = instance.len();
     if !scales {
         return None;

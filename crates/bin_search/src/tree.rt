@@ -24,9 +24,9 @@ use std::alloc::Global;
 use std::marker::Model;
 use work_share::{Node, Tree};
 
-/// The search tree for a packing in so many bins: the boxes get bins by falling volume, first each
-/// used bin and then a new one, and the changed bin is decided by its class tree. It is seen as
-/// these parts, and stands for the tree of the definition.
+/// The search tree for a packing in a given number of bins: the boxes get bins by falling volume,
+/// first each used bin and then a new one, and the changed bin is decided by its class tree. It is
+/// seen as these parts, and stands for the tree of the definition.
 #[derive(Drop)]
 pub struct BinTree<'a> {
     instance: &'a Instance,
@@ -52,7 +52,7 @@ impl<'a> BinTree<'a> {
         self.instance.len()
     }
 
-    /// The tree for so many bins, with conservative scales or without. No box is longer than the
+    /// The tree for `bins` bins, with conservative scales or without. No box is longer than the
     /// container, and there are no more bins than boxes.
     pub fn new(
         alloc: Global,
@@ -95,7 +95,7 @@ impl<'a> BinTree<'a> {
         ensures outcome { IfOk result
             (λ r. plain_outcome r ≡ under_budget cap (outcome (shape self.now))) }
     {
-        // For the proof alone: tells the limits of the instance.
+        // For the proof alone: states the limits of the instance.
         let _limits = self.instance.len();
         if let Some(token) = scales_token(alloc, self.instance, self.bins, self.scales) {
             let tokens = CompactTokens::of_one(alloc, token)?;
@@ -118,7 +118,7 @@ impl<'a> BinTree<'a> {
         ensures { IfOk result (λ step. IsChildStep self.now step.placed (lists_of step.bins.items)
             step.child (node_at (Some (shape self.now)) path.now)) }
     {
-        // For the proof alone: tells the limits of the instance.
+        // For the proof alone: states the limits of the instance.
         let _limits = self.instance.len();
         last_step(alloc, self.order.as_slice(), path)
     }
@@ -140,7 +140,7 @@ impl<'a> BinTree<'a> {
         ensures { IfOk result (λ r. IfSome (node_at (Some (shape self.now)) path.now)
             (λ node. plain_outcome r ≡ under_budget cap (outcome node))) }
     {
-        // For the proof alone: tells the limits of the instance.
+        // For the proof alone: states the limits of the instance.
         let _limits = self.instance.len();
         let step = self.step_to(alloc, path)?;
         let order = self.order.as_slice();
@@ -170,11 +170,11 @@ impl<'a> BinTree<'a> {
         }
     }
 
-    // What is told of the root.
+    // What is reported of the root.
     fn tell_root(&self, alloc: Global) -> Node
         ensures { plain_node result ≡ node_view (shape self.now) }
     {
-        // For the proof alone: tells the limits of the instance.
+        // For the proof alone: states the limits of the instance.
         let _limits = self.instance.len();
         match scales_token(alloc, self.instance, self.bins, self.scales) {
             Some(_token) => Node::Leaf,
@@ -185,7 +185,7 @@ impl<'a> BinTree<'a> {
         }
     }
 
-    // What is told of the child at the end of a path.
+    // What is reported of the child at the end of a path.
     fn tell_child(
         &self,
         alloc: Global,
@@ -201,14 +201,14 @@ impl<'a> BinTree<'a> {
         ensures { IfOk result (λ r. IfSome (node_at (Some (shape self.now)) path.now)
             (λ node. plain_node r ≡ node_view node)) }
     {
-        // For the proof alone: tells the limits of the instance.
+        // For the proof alone: states the limits of the instance.
         let _limits = self.instance.len();
         let step = self.step_to(alloc, path)?;
         let order = self.order.as_slice();
         tell_step(alloc, search, self.instance, order, self.bins, step)
     }
 
-    // What is told of the node at a path.
+    // What is reported of the node at a path.
     pub(crate) fn tell_node(
         &self,
         alloc: Global,
@@ -256,7 +256,7 @@ impl<'a> Tree for BinTree<'a> {
             * sum_below (box_count self.now.instance) (λ j. self.now.bins ^ (j + 1)) ≤ cap
             → IfOk result (λ r. IsYesOrNo (plain_outcome r)) }
     {
-        // For the proof alone: tells the limits of the instance.
+        // For the proof alone: states the limits of the instance.
         let _limits = self.instance.len();
         let mut search = SetSearch::new(alloc, self.instance, self.scales)?;
         self.explore_node(alloc, &mut search, path, cap)

@@ -19,13 +19,13 @@ use proof_tree::{CompactTokens, Outcome, Token};
 use set_search::{Child, SetSearch};
 use std::alloc::Global;
 
-// The token of a node at which so many boxes have bins.
+// The token of a node at which `placed` boxes have bins.
 pub(crate) fn assign(instance: &Instance, order: &[u32], placed: usize) -> Token
     requires order { order.now ≡ ranked instance.now }
     requires there { placed < length order.now }
     ensures { plain_token result ≡ Assign (suc (slice_index_or (ranked instance.now) placed 0)) }
 {
-    // For the proof alone: tells the limits of the instance.
+    // For the proof alone: states the limits of the instance.
     let _limits = instance.len();
     Token::Assign {
         box_no: order[placed] + 1,

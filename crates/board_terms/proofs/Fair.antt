@@ -67,7 +67,7 @@ out_keeps tree budget = record {
     numbered (SplitEntry number path token own children) = refl
     numbered (TaskEntry number path state) = refl
 
--- what is told under the budget, or not, is the node's outcome
+-- the outcome under a cap that is at least the budget is the node's outcome
 pub told_is_outcome : (budget cap : ℕ) (verdict : Verdict) → budget ≤ cap
     → IsOutcomeOf budget verdict (under_budget cap verdict)
 told_is_outcome budget cap verdict l = go (ltb cap (count_of verdict)) refl
@@ -184,7 +184,7 @@ children_right tree budget path node token own n r there told (suc more) k numbe
   children_right tree budget path node token own n r there told more (suc k) (suc number) (omega (arith, l)),
 )
 
--- how many fresh numbers a node that is told this way takes
+-- how many fresh numbers a node with this view takes
 abbrev pub children_in : PlainNode → ℕ
 children_in Leaf = 0
 children_in (Splits token own n) = n

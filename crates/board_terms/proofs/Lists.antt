@@ -2,7 +2,7 @@
 use Rattle.std.proofs.Common.{◌≡◌, ℕ, zero, suc, ◌+◌, ◌<◌, ◌≤◌, refl, arith, List, [], ◌∷◌, ◌++◌, length}
 use Rattle.board_terms.specs.Kept.{IsNotIn, AreDistinct, AreBelow}
 
--- so many numbers, from the given one on
+-- a given number of numbers, from `n` on
 abbrev pub numbers_from : ℕ → ℕ → List ℕ
 numbers_from n zero = []
 numbers_from n (suc more) = n ∷ numbers_from (suc n) more

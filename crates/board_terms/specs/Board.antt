@@ -89,8 +89,8 @@ abbrev pub with_state : PlainTaskState → PlainEntry → PlainEntry
 with_state state (SplitEntry number path token own children) = SplitEntry number path token own children
 with_state state (TaskEntry number path old) = TaskEntry number path state
 
--- the children of a split from the k-th on, so many, which wait: numbered from left to right from
--- the given number on
+-- a given number of children of a split, from the k-th on, which wait: numbered from left to right
+-- from `number` on
 abbrev pub children_from : List ℕ → ℕ → ℕ → ℕ → List PlainEntry
 children_from path k zero number = []
 children_from path k (suc more) number =

@@ -10,12 +10,12 @@ use Rattle.board_terms.specs.Steps.{handed_out, with_entries}
 use Rattle.board_terms.specs.declared.Event.{Event}
 use Rattle.board_terms.specs.declared.Event.TheVariants as stored
 
--- the node at a path as it is told; where there is none, a leaf
+-- the view of the node at a path; where there is none, a leaf
 abbrev pub told_there : Option SearchTree → PlainNode
 told_there None = Leaf
 told_there (Some node) = node_view node
 
--- an entry as a node that is told this way leaves it
+-- an entry as a node with this view leaves it
 abbrev pub split_as : PlainNode → ℕ → PlainEntry → List PlainEntry
 split_as Leaf fresh e = e ∷ []
 split_as (Splits token own children) fresh e = split_into token own children fresh e
@@ -26,8 +26,8 @@ split_by tree fresh (SplitEntry number path token own children) = SplitEntry num
 split_by tree fresh (TaskEntry number path state) =
     split_as (told_there (node_at (Some tree) path)) fresh (TaskEntry number path state)
 
--- the outcome that is read from the tree: as told under the budget where past was given, and else
--- whole
+-- the outcome that is read from the tree: the one under the budget where past was given, and else
+-- the whole verdict
 abbrev pub outcome_read : ℕ → Bool → Verdict → PlainOutcome
 outcome_read budget true verdict = under_budget budget verdict
 outcome_read budget false verdict = Decided verdict

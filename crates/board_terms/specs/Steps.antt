@@ -47,7 +47,7 @@ outcome_given false verdict = Decided verdict
 abbrev pub with_entries : BoardState → List PlainEntry → BoardState
 with_entries board entries = record board { entries = entries }
 
--- The task of this number is out, and the tree's node at its path is told as a split: its entry and
+-- The task of this number is out, and the view of the tree's node at its path is a split: its entry and
 -- its children stand in the task's place.
 pub record Divides (tree : SearchTree) (old : BoardState) (number : ℕ) (new : BoardState) : Type 0 where
   pub path : List ℕ

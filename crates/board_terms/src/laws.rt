@@ -66,8 +66,8 @@ pub fn histories_keep_a_board()
         → board_joined budget (replay tree budget events) ≡ under_budget budget (outcome tree) }
 {}
 
-/// What is told under the budget is an outcome that a task may be finished with, and so is what is
-/// told under any other cap and isn't past.
+/// The outcome under the budget is one that a task may be finished with, and so is the outcome
+/// under any other cap where it isn't past.
 pub fn pieces_are_outcomes()
     ensures budget { (budget : ℕ) (verdict : Verdict)
         → IsOutcomeOf budget verdict (under_budget budget verdict) }

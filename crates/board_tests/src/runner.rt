@@ -58,7 +58,7 @@ pub(crate) fn take<T: Tree>(board: &mut Board<'_, T>, met: &mut Met) -> Result<b
     }
 }
 
-/// Explores a task that is out, and hands in what it gives.
+/// Explores a task that is out, and submits its outcome.
 pub(crate) fn finish<T: Tree>(
     alloc: Global,
     tree: &T,
@@ -80,7 +80,7 @@ pub(crate) fn finish<T: Tree>(
     Ok(())
 }
 
-/// Splits a task that is out, or hands in what it gives where its node is a leaf.
+/// Splits a task that is out, or submits its outcome where its node is a leaf.
 pub(crate) fn split<T: Tree>(
     alloc: Global,
     tree: &T,
@@ -160,7 +160,7 @@ pub(crate) fn drive<T: Tree>(
 }
 
 /// Takes and finishes tasks, the last taken first, until the board is over. It answers false where
-/// it isn't within so many turns.
+/// it isn't within `turns` turns.
 pub(crate) fn complete<T: Tree>(
     alloc: Global,
     tree: &T,

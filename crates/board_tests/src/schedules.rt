@@ -27,7 +27,7 @@ fn is_other_yes(outcome: &Outcome, first: &Option<Vec<u32>>) -> bool {
     }
 }
 
-// So many numbers of a linear congruence.
+// `count` numbers of a linear congruence.
 fn draw(alloc: Global, seed: u32, count: usize) -> Result<Vec<u32>, NoMemory> {
     let mut numbers = Vec::new(alloc);
     let mut state = seed;
@@ -95,7 +95,7 @@ fn run_drawn(
     Ok(())
 }
 
-// So many rounds of schedules, each under all of the budgets.
+// `rounds` rounds of schedules, each under all of the budgets.
 fn run_rounds(
     alloc: Global,
     tree: &ClassTree<'_>,

@@ -153,7 +153,7 @@ fn run_deep(alloc: Global, tree: &ClassTree<'_>) -> Result<Option<Outcome>, NoMe
     join(alloc, board)
 }
 
-// Whether a run came to the refutation of one thread, which has so many branchings.
+// Whether a run came to the refutation of one thread, which has `branchings` branchings.
 fn is_refuted(
     alloc: Global,
     tree: &ClassTree<'_>,

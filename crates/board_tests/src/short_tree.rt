@@ -14,8 +14,8 @@ use work_share::{NoGate, Settings, ShortTree, Tree, solve_shared};
 // The budget where no words say another.
 const BUDGET: u64 = 1_000_000;
 
-// What so many workers give of the tree of eight boxes in a row, where memory is short at the first
-// child of the root.
+// What `workers` workers give of the tree of eight boxes in a row, where memory is short at the
+// first child of the root.
 fn share_short<R: Threads + Wait + Sync>(
     rt: &R,
     alloc: Global,

@@ -14,7 +14,7 @@ use work_share::{Gate, NoGate, Settings, Tree, solve_shared};
 
 const WORKERS: [u32; 6] = [1, 2, 3, 4, 8, 64];
 
-// What so many workers give, who go on with each other's walks.
+// What `workers` workers give, who go on with each other's walks.
 fn share<R: Threads + Wait + Sync, G: Gate + Sync>(
     rt: &R,
     alloc: Global,
@@ -31,7 +31,7 @@ fn share<R: Threads + Wait + Sync, G: Gate + Sync>(
     tree.solve(rt, alloc, &settings, gate)
 }
 
-// What so many workers give, who begin each task anew.
+// What `workers` workers give, who begin each task anew.
 fn share_anew<R: Threads + Wait + Sync>(
     rt: &R,
     alloc: Global,
@@ -47,7 +47,7 @@ fn share_anew<R: Threads + Wait + Sync>(
     solve_shared(rt, alloc, tree, &settings, &NoGate)
 }
 
-// Whether so many workers give this outcome, both ways.
+// Whether `workers` workers give this outcome, both ways.
 fn is_shared_by<R: Threads + Wait + Sync>(
     rt: &R,
     alloc: Global,
@@ -210,8 +210,8 @@ impl Gate for CallCounts {
     }
 }
 
-// Whether so many workers call the gate so often under this budget, once for each of the numbers
-// from 0 on.
+// Whether `workers` workers call the gate `calls` times under this budget, once for each of the
+// numbers from 0 on.
 fn calls_for_each<R: Threads + Wait + Sync>(
     rt: &R,
     alloc: Global,

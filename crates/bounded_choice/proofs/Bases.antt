@@ -49,7 +49,7 @@ parameters_next tokens k t l is h one =
     longer = ap (map plain_bounded) (take_more tokens k t l ∙ ap (λ (x : BoundedToken). take k tokens ++ x ∷ []) (sym is))
         ∙ map_push plain_bounded (take k tokens) t
 
--- ---- the levels that an answer tells
+-- ---- the levels that an answer states
 
 pub told_levels : (instance : PlainInstance) (choice : Choice) → IsTrueChoice instance choice
     → refuted_by choice ≤ max_worth → IsBoundedAnswer instance (levels_told choice)

@@ -12,7 +12,7 @@ use std::sync::Wait;
 use std::thread::Threads;
 use work_share::{Gate, Settings};
 
-// The levels that an answer tells.
+// The levels that an answer states.
 fn levels_of(choice: Choice) -> ValueLevels
     requires { refuted_by choice ≤ max_worth }
     ensures { plain_levels result ≡ levels_told choice }
@@ -53,7 +53,7 @@ pub(crate) fn plain_base<R: Threads + Wait + Sync, G: Gate + Sync>(
     ensures levels { IfOk result (λ l. AreLevels instance.now l) }
     ensures past { IfOk result (λ l. IsOpenOnlyPast false instance.now settings.now l) }
 {
-    // For the proof alone: tells the limits of the instance.
+    // For the proof alone: states the limits of the instance.
     let _limits = instance.len();
     let choice = greatest_value(rt, alloc, instance, settings, gate)?;
     Ok(levels_of(choice))
@@ -70,7 +70,7 @@ pub(crate) fn proposed_base<R: Threads + Wait + Sync, G: Gate + Sync>(
     ensures levels { IfOk result (λ l. AreLevels instance.now l) }
     ensures past { IfOk result (λ l. IsOpenOnlyPast true instance.now settings.now l) }
 {
-    // For the proof alone: tells the limits of the instance.
+    // For the proof alone: states the limits of the instance.
     let _limits = instance.len();
     let choice = greatest_value_proposed(rt, alloc, instance, settings, gate)?;
     Ok(levels_of(choice))

@@ -30,7 +30,7 @@ fn levels_of(first: Reached) -> ValueLevels
 fn widest(alloc: Global, instance: &Instance) -> Result<ValueLevels, NoMemory>
     ensures { IfOk result (λ l. AreLevels instance.now l) }
 {
-    // For the proof alone: tells the limits of the instance.
+    // For the proof alone: states the limits of the instance.
     let _limits = instance.len();
     let first = first_values(alloc, instance)?;
     Ok(levels_of(first))

@@ -23,7 +23,7 @@ pub(crate) fn tested_value(
 ) -> Result<Option<PlacedValue>, NoMemory>
     ensures { IfOk result (λ found. IfSome found (λ p. IsPlacedValue instance.now p)) }
 {
-    // For the proof alone: tells the limits of the instance.
+    // For the proof alone: states the limits of the instance.
     let _limits = instance.len();
     if !is_choice(alloc, instance, taken, places)? {
         return Ok(None);

@@ -28,7 +28,7 @@ pub fn is_bounded_refutation(
     Ok(refuter.whole())
 }
 
-// For the proof alone: tells the ranges of the numbers of a token.
+// For the proof alone: states the ranges of the numbers of a token.
 fn tell_parameter(token: &BoundedToken)
     ensures { HaveParameters (plain_bounded token.now ∷ []) }
 {
@@ -49,7 +49,7 @@ fn tell_parameter(token: &BoundedToken)
     }
 }
 
-/// For the proof alone: tells the ranges of the numbers of tokens.
+/// For the proof alone: states the ranges of the numbers of tokens.
 pub(crate) fn tell_parameters(tokens: &[BoundedToken])
     ensures { HaveParameters (plain_bounded_tokens tokens.now) }
 {

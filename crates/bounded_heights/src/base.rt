@@ -53,7 +53,7 @@ pub(crate) fn plain_base<R: Threads + Wait + Sync, G: Gate + Sync>(
     ensures past { IfOk result
         (λ s. IsOpenOnlyPast false instance.now settings.now (plain_strip s)) }
 {
-    // For the proof alone: tells the limits of the instance.
+    // For the proof alone: states the limits of the instance.
     let _limits = instance.len();
     let strip = least_height(rt, alloc, instance, settings, gate)?;
     Ok(levels_of(strip))
@@ -71,7 +71,7 @@ pub(crate) fn proposed_base<R: Threads + Wait + Sync, G: Gate + Sync>(
     ensures past { IfOk result
         (λ s. IsOpenOnlyPast true instance.now settings.now (plain_strip s)) }
 {
-    // For the proof alone: tells the limits of the instance.
+    // For the proof alone: states the limits of the instance.
     let _limits = instance.len();
     let strip = least_height_proposed(rt, alloc, instance, settings, gate)?;
     Ok(levels_of(strip))

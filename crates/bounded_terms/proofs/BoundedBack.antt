@@ -1,5 +1,5 @@
--- The words of a token are read back as the token, and a line that is told by its first 12 words,
--- each by its first 21 bytes, is the same token. What plain tokens say of tuples says it of those of
+-- The words of a token are read back as the token, and a line that is cut to its first 12 words,
+-- each to its first 21 bytes, is the same token. What plain tokens say of tuples says it of those of
 -- priced leaves: the words behind `v` are the same functions.
 use Rattle.std.proofs.Common.{◌≡◌, ℕ, ◌<◌, ◌≤◌, ◌⊎◌, inl, inr, refl, sym, ap, ap₂, ◌∙◌, arith, Bool, true}
 use Rattle.std.proofs.Common.{false, cond, List, [], ◌∷◌, take, map, length, Option, Some, None, codes}
@@ -89,7 +89,7 @@ bounded_tokens_are_read_back d (Plain t) h =
 bounded_tokens_are_read_back d (PricedOut q p fs) h = priced_back d q p fs h.0 h.1 h.2
 bounded_tokens_are_read_back d (Exchange u v) h = exchange_back u v h.0 h.1
 
--- ---- told
+-- ---- cut lines
 
 tuple_cut : (d : ℕ) (words : List (List ℕ)) → d ≤ 4
     → tuple_of d Scales (functions (cut_rest words)) ≡ tuple_of d Scales (functions words)
@@ -106,7 +106,7 @@ many_words d words few long = go (functions words) refl
         ap (λ b. cond b (Some (Scales fs)) None)
         (ne_eqb (length fs) d (λ f. let n = functions_many words fs e in omega (arith, n, long, f, few)))
 
--- so nine of the words behind the weights tell whether they are a tuple
+-- so nine of the words behind the weights show whether they are a tuple
 nine_words : (d : ℕ) (words : List (List ℕ)) → d ≤ 4
     → tuple_of d Scales (functions (take 9 (map (take 21) words))) ≡ tuple_of d Scales (functions words)
 nine_words d words few = go (cases_lt 9 (length words))

@@ -66,6 +66,6 @@ abbrev pub BoundedTokensAreReadBack : Type 0
 BoundedTokensAreReadBack = (d : ℕ) (t : BoundedToken) → HasBoundedLine d t
     → bounded_token_of d (bounded_token_words t) ≡ Some t
 
--- a line that is told by its first 12 words, each by its first 21 bytes, is the same token
+-- a line that is cut to its first 12 words, each to its first 21 bytes, is the same token
 abbrev pub BoundedLinesAreTold : Type 0
 BoundedLinesAreTold = (d : ℕ) → d ≤ 4 → (line : Line) → bounded_line_token d (cut_line line) ≡ bounded_line_token d line

@@ -127,8 +127,8 @@ pub fn bounded_tokens_are_judged()
 {}
 
 /// The words of a token are read back as the token, where its parameters are at most 4,294,967,295
-/// and its tuple has a function for each dimension. A line that is told by its first 12 words, each
-/// by its first 21 bytes, is the same token, or none, as the line itself.
+/// and its tuple has a function for each dimension. A line that is cut to its first 12 words, each
+/// to its first 21 bytes, is the same token, or none, as the line itself.
 pub fn bounded_lines_are_read_back()
     ensures words { BoundedTokensAreReadBack }
     ensures told { BoundedLinesAreTold }

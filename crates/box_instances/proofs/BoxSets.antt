@@ -98,7 +98,7 @@ pub set_of : {seen known : PlainBoxSet} {keep : List ℕ} → seen ≡ known →
     → IsBoxSet seen.whole keep
 set_of e set = rw e set
 
--- the instance for so many boxes
+-- the instance for as many boxes as `keep` has
 pub part_there : (whole : PlainInstance) (old : List ℕ) (sets : List PlainInstance) (capacity : ℕ) (keep : List ℕ)
     (part : PlainInstance) → IsHeldSet whole old sets capacity
     → IsBoxSet whole keep → 1 ≤ length keep → part ≡ get_or sets (length keep - 1) part

@@ -19,7 +19,7 @@ with_parts container kerfs boxes = record { container = container; kerfs = kerfs
 two_on : (number k j : ℕ) → j ≡ suc (suc k) → next_seed (next_seed (seed number k)) ≡ seed number j
 two_on number k j e = ap (seed number) (sym e)
 
--- so many boxes of a number are made, and the seed is the one behind their draws
+-- the first `v` boxes of a number are made, and `last` is the seed behind their draws
 pub record AreMade (number v last : ℕ) (list : List PlainBox) : Type 0 where
   pub seed : last ≡ seed number (2 * v + 1)
   pub boxes : list ≡ map (made_box number) (range_with_len 0 v)

@@ -17,7 +17,7 @@ pub record PlainBoxSet : Type 0 where
 abbrev pub no_instance : PlainInstance
 no_instance = record { container = []; kerfs = []; boxes = [] }
 
--- an instance with so many boxes and the container and kerfs of another
+-- an instance with `count` boxes and the container and kerfs of another
 pub record IsPart (whole : PlainInstance) (count : ℕ) (part : PlainInstance) : Type 0 where
   pub same_count : box_count part ≡ count
   pub container : part.container ≡ whole.container

@@ -4,7 +4,7 @@ use Rattle.packing_terms.specs.Packing.{PlainInstance, dims, box_count, side, co
 use Rattle.packing_terms.specs.Limits.{max_boxes, IsInternalInstance}
 
 -- what the type keeps: it is within the limits, its working sides stand in their places, and no box
--- is longer than the longest sides tell
+-- is longer in a dimension than `longest` states
 pub record IsHeld (instance : PlainInstance) (limits : List ℕ) (working : List (List ℕ)) (longest : List ℕ) :
     Type 0 where
   pub within : IsInternalInstance instance

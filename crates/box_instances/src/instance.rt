@@ -129,7 +129,7 @@ fn first_box_fault(dims: usize, kerf: &[u32], boxes: &[BoxItem]) -> Option<Insta
     None
 }
 
-// So many zeros.
+// `count` zeros.
 fn zeros(alloc: Global, count: usize) -> Sides
     requires { count ≤ 4 }
     ensures { result.items ≡ replicate count 0 }

@@ -129,7 +129,7 @@ impl<'a> BoxSet<'a> {
         requires set { IsBoxSet self.old.whole keep.now }
         ensures { self.new ≡ record self.old { keep = keep.now } }
     {
-        // For the proof alone: tells the limits of the instance.
+        // For the proof alone: states the limits of the instance.
         let _limits = self.whole.len();
         refill(&mut self.keep, keep);
         set_boxes(&mut self.sets[keep.len() - 1], self.whole, keep);

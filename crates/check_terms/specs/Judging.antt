@@ -73,7 +73,7 @@ sides_fit instance =
     list_all (λ v. list_all (λ i. nat_le (side instance v i) (container_side instance i)) (below (dims instance)))
     (below (box_count instance))
 
--- a tuple, for so many copies of the container
+-- a tuple, for `copies` copies of the container
 abbrev pub tuple_refusal : PlainInstance → ℕ → List ScaleFn → Option RefuseCode
 tuple_refusal instance copies fs =
     unless (length fs == dims instance) Kind (unless (are_legal instance fs) Range (

@@ -25,7 +25,7 @@ fn a_failed_read_before_a_refused_line_is_a_read_fault(rt: HostRuntime) -> Resul
     Ok(())
 }
 
-// Whether the refused line is told by such reads, and what stands behind it is left.
+// Whether the refused line is reported under such reads, and what stands behind it is left.
 fn leaves_the_rest<R: AllocGlobal + Threads + Wait + Sync>(
     rt: &R,
     reads: &[ReadStep],

@@ -1,5 +1,5 @@
-//! Both ends of each limit, with ample memory, compared whole: a body that gives up with want of
-//! memory at some size fails here.
+//! Both ends of each limit, with ample memory, compared whole: a body that stops for want of memory
+//! at some size fails here.
 use pack_streams::{MemorySink, SinkError, WriteFault, write_number, write_on};
 use program_runs::{
     EIGHT_IN_A_ROW, Solved, count_reads, ends, is_solved, matches_one_worker, tells, writes,
@@ -76,7 +76,7 @@ fn least_and_greatest_sizes_are_answered(rt: HostRuntime) -> Result<(), Fail> {
     Ok(())
 }
 
-// So many boxes in a row that they fill.
+// `count` boxes in a row that they fill.
 fn row(alloc: Global, count: u64) -> Result<MemorySink, SinkError> {
     let mut text = MemorySink::new(alloc, 4096, Vec::new(alloc))?;
     let headed = write_on(&mut text, Ok(()), b"format 1\ncontainer ");

@@ -48,7 +48,7 @@ fn a_message_that_fails_changes_no_status(rt: HostRuntime) -> Result<(), Fail> {
     Ok(())
 }
 
-// Whether the run by these writes ends with a write fault, and leaves so many bytes.
+// Whether the run by these writes ends with a write fault, and leaves `count` bytes.
 fn leaves_bytes<R: AllocGlobal + Threads + Wait + Sync>(
     rt: &R,
     words: &[&str],

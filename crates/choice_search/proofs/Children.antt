@@ -22,7 +22,7 @@ use Rattle.choice_search.specs.Paths.{class_answer, IsAbove, box_at, child_tree}
 use Rattle.choice_search.proofs.Choosing.{more_boxes, more_set, inside_chosen, outside_chosen}
 use Rattle.choice_search.proofs.NodeOutcomes.{own_first, inside_counts}
 
--- a node whose own count is past every budget is told as a leaf
+-- a node whose own count is past every budget is reported as a leaf
 past_told : (instance : PlainInstance) (scales : Bool) (goal : ℕ) (rest taken numbers : List ℕ) (own : ℕ)
     → max_budget < own
     → node_view (choice_node instance scales goal rest taken numbers own) ≡ Leaf
@@ -41,7 +41,7 @@ past_told instance scales goal (v ∷ vs) taken numbers own l =
     go false true f = refl
     go false false f = rw (lt-ltb max_budget own l) refl
 
--- a node that isn't split is told as a leaf
+-- a node that isn't split is reported as a leaf
 pub reached_told : (instance : PlainInstance) (scales : Bool) (goal : ℕ) (rest taken numbers : List ℕ) (own : ℕ)
     → is_reached instance goal taken ≡ true
     → node_view (choice_node instance scales goal rest taken numbers own) ≡ Leaf

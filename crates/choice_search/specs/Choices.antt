@@ -31,8 +31,8 @@ shape t = choice_tree t.instance t.goal t.scales
 pub same_trees : (t u : PlainChoiceTree) → t ≡ u → shape t ≡ shape u
 same_trees t u e = rw e refl
 
--- so many boxes by rank are decided; those that are in rise, none of them is left, and their answer
--- has as many numbers as their coordinates
+-- the first `decided` boxes by rank are decided; those that are in rise, none of them is left, and
+-- their answer has as many numbers as their coordinates
 pub record IsChosen (instance : PlainInstance) (decided : ℕ) (taken numbers : List ℕ) : Type 0 where
   pub there : decided ≤ length (ranked instance)
   pub rest : AreBoxes instance (drop decided (ranked instance))
@@ -41,7 +41,7 @@ pub record IsChosen (instance : PlainInstance) (decided : ℕ) (taken numbers : 
   pub rising : AreRising taken
   pub count : length numbers ≡ length taken * dims instance
 
--- the kind of the node at which so many boxes are decided and these are in
+-- the kind of the node at which `decided` boxes are decided and those in `taken` are in
 abbrev pub IsMet : PlainInstance → ℕ → ℕ → List ℕ → NodeKind → Type 0
 IsMet instance goal decided taken Reached = is_reached instance goal taken ≡ true
 IsMet instance goal decided taken Short =

@@ -15,8 +15,8 @@ use set_search::{Child, SetSearch};
 use std::alloc::Global;
 use work_share::Node;
 
-// A node that its set of boxes doesn't refute: so many boxes by rank are decided, these of them are
-// in, with the answer of their class tree.
+// A node that its set of boxes doesn't refute: the first `decided` boxes by rank are decided, those
+// in `taken` are in, with the answer of their class tree.
 #[derive(Drop)]
 pub struct Chosen {
     pub decided: usize,
@@ -48,7 +48,7 @@ fn worth_of(instance: &Instance, keep: &[u32]) -> u64
     ensures value { result ≡ worth instance.now keep.now }
     ensures bound { result ≤ 128000000000 }
 {
-    // For the proof alone: tells the limits of the instance.
+    // For the proof alone: states the limits of the instance.
     let _limits = instance.len();
     let mut sum = 0;
     for v in keep {
@@ -57,7 +57,7 @@ fn worth_of(instance: &Instance, keep: &[u32]) -> u64
     sum
 }
 
-// Tells what a node is.
+// Finds what a node is.
 pub(crate) fn meet(
     instance: &Instance,
     order: &[u32],
@@ -119,7 +119,7 @@ pub(crate) fn open_first(
     }
 }
 
-// What is told of a node of this kind, whose own count is within the greatest budget.
+// What is reported of a node of this kind, whose own count is within the greatest budget.
 pub(crate) fn tell(
     instance: &Instance,
     value: u64,
@@ -135,7 +135,7 @@ pub(crate) fn tell(
         (choice_node instance.now scales value (drop decided (ranked instance.now)) taken.now
         numbers own) }
 {
-    // For the proof alone: tells the limits of the instance.
+    // For the proof alone: states the limits of the instance.
     let _limits = instance.len();
     match kind {
         NodeKind::Reached => Node::Leaf,

@@ -18,7 +18,8 @@ use set_search::{Child, MAX_BUDGET, SetSearch, put_box};
 use std::alloc::Global;
 use work_share::Node;
 
-// A node with a box left: so many boxes by rank are decided, and these of them are in.
+// A node with a box left: the first `decided` boxes by rank are decided, and those in `taken` are
+// in.
 #[derive(Drop)]
 pub struct Above {
     pub decided: usize,
@@ -125,7 +126,7 @@ pub(crate) fn explore_second(
     walk(alloc, search, instance, order, value, node, 1, cap)
 }
 
-// What is told of a node's first child.
+// What is reported of a node's first child.
 pub(crate) fn tell_first(
     alloc: Global,
     search: &mut SetSearch<'_>,
@@ -159,7 +160,7 @@ pub(crate) fn tell_first(
     }
 }
 
-// What is told of a node's second child.
+// What is reported of a node's second child.
 pub(crate) fn tell_second(instance: &Instance, order: &[u32], value: u64, above: Above) -> Node
     requires order { order.now ≡ ranked instance.now }
     requires there { above.decided < length order.now }

@@ -84,7 +84,7 @@ impl<'a> ChoiceTree<'a> {
         ensures outcome { IfOk result
             (λ r. plain_outcome r ≡ under_budget cap (outcome (shape self.now))) }
     {
-        // For the proof alone: tells the limits of the instance.
+        // For the proof alone: states the limits of the instance.
         let _limits = self.instance.len();
         let root = Chosen {
             decided: 0,
@@ -121,7 +121,7 @@ impl<'a> ChoiceTree<'a> {
         ensures { IfOk result (λ r. IfSome (node_at (Some (shape self.now)) path.now)
             (λ node. plain_outcome r ≡ under_budget cap (outcome node))) }
     {
-        // For the proof alone: tells the limits of the instance.
+        // For the proof alone: states the limits of the instance.
         let _limits = self.instance.len();
         let last = path.len() - 1;
         let order = self.order.as_slice();
@@ -156,18 +156,18 @@ impl<'a> ChoiceTree<'a> {
         }
     }
 
-    // What is told of the root.
+    // What is reported of the root.
     fn tell_root(&self) -> Node
         ensures { plain_node result ≡ node_view (shape self.now) }
     {
-        // For the proof alone: tells the limits of the instance.
+        // For the proof alone: states the limits of the instance.
         let _limits = self.instance.len();
         let order = self.order.as_slice();
         let kind = meet(self.instance, order, self.value, 0, &[]);
         tell(self.instance, self.value, 0, &[], kind, 0)
     }
 
-    // What is told of the child at the end of a path.
+    // What is reported of the child at the end of a path.
     fn tell_child(
         &self,
         alloc: Global,
@@ -183,7 +183,7 @@ impl<'a> ChoiceTree<'a> {
         ensures { IfOk result (λ r. IfSome (node_at (Some (shape self.now)) path.now)
             (λ node. plain_node r ≡ node_view node)) }
     {
-        // For the proof alone: tells the limits of the instance.
+        // For the proof alone: states the limits of the instance.
         let _limits = self.instance.len();
         let last = path.len() - 1;
         let order = self.order.as_slice();
@@ -195,7 +195,7 @@ impl<'a> ChoiceTree<'a> {
         }
     }
 
-    // What is told of the node at a path.
+    // What is reported of the node at a path.
     pub(crate) fn tell_node(
         &self,
         alloc: Global,
@@ -243,7 +243,7 @@ impl<'a> Tree for ChoiceTree<'a> {
             * (2 ^ (box_count self.now.instance + 1) - 2) ≤ cap
             → IfOk result (λ r. IsYesOrNo (plain_outcome r)) }
     {
-        // For the proof alone: tells the limits of the instance.
+        // For the proof alone: states the limits of the instance.
         let _limits = self.instance.len();
         let mut search = SetSearch::new(alloc, self.instance, self.scales)?;
         self.explore_node(alloc, &mut search, path, cap)

@@ -13,7 +13,7 @@ pub arrival_is : (instance : PlainInstance) (tree : Option SearchTree) (es : Lis
 arrival_is instance tree es (RefutedRoot token) h = h
 arrival_is instance tree es (Inner kind) h = h.is
 
--- what is told of the tree that was found is told of that of the path
+-- the outcome under a cap of the tree that was found is that of the tree at the path
 pub arrival_told : (instance : PlainInstance) (tree : Option SearchTree) (es : List Exclusion) (arrival : Arrival)
     (cap : ℕ) (r : PlainOutcome)
     → IsArrival instance tree es arrival → r ≡ under_budget cap (outcome (arrival_tree instance es arrival))

@@ -71,7 +71,7 @@ pub explored_told : (instance : PlainInstance) (o : Option SearchTree) (cap : �
 explored_told instance None cap e r f h = tt
 explored_told instance (Some node) cap e r f h = f node h
 
--- what is told of a walk's node is told of the node at which the walk was left
+-- what is reported of a walk's node is what is reported of the node at which the walk was left
 pub left_node : {A : Type 0} (tell : SearchTree → A) (instance : PlainInstance) (o : Option SearchTree)
     (left : Option PausedWalk) (s : PausedWalk) (node : A) → left ≡ Some s → node ≡ tell (standing_tree s)
     → IfSome o (λ t. IfSome left (IsWalkOf instance t)) → IfSome o (λ t. node ≡ tell t)

@@ -131,7 +131,7 @@ module _ (s : PausedWalk) (f : Frame) (rest : List Frame) (e : s.walk.frames.ite
   pub met_some : (0 < length s.walk.tokens) × (1 ≤ s.walk.count)
   met_some = ((let t = ap length r.tokens_are in omega (arith, t)), (let n = r.count_is in omega (arith, n)))
 
-  -- the split that is told of the node is that of the first frame
+  -- the split that is reported of the node is that of the first frame
   pub met_node : {A : Type 0} (tell : SearchTree → A) (node : A)
       → ((es : List Exclusion) → node ≡ tell (kind_tree s.instance.now es (Divided f.split f.rank)))
       → node ≡ tell (standing_tree s)

@@ -1,4 +1,4 @@
--- What a visit tells, from the closure and the first unsettled pair.
+-- What a visit shows, from the closure and the first unsettled pair.
 use Rattle.std.proofs.Common.{◌≡◌, ℕ, ◌<◌, ◌≤◌, sym, ap, ◌∙◌, List, ◌++◌, false}
 use Rattle.packing_terms.specs.declared.Exclusion.{Exclusion}
 use Rattle.packing_terms.specs.Packing.{PlainInstance, dims, box_count}

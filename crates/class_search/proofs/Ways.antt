@@ -295,7 +295,7 @@ module _ (instance : PlainInstance) where
       (join (join first_child (join second_child no_tokens)) j.0) in
       omega (arith, e, n, f, m)
 
-  -- what is told at the end
+  -- the outcome at the end
   pub settled_told : (whole : SearchTree) (fs : List Frame) (es : List Exclusion) (ts : List PlainToken) (c cap : ℕ)
       (numbers : List ℕ) → AreMet instance fs es (kind_tree instance es Settled) ts c
       → root_of instance fs es (kind_tree instance es Settled) ≡ whole

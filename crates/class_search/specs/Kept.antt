@@ -61,7 +61,7 @@ pub record IsDivisionOf (instance : PlainInstance) (tree : SearchTree) (d : Divi
   pub node : plain_node d.node ≡ node_view tree
   pub parts : ArePartsOf instance tree d.parts
 
--- what is told under a cap, with a walk through the same tree, if one is left
+-- the outcome under a cap, with a walk through the same tree, if one is left
 pub record IsExplored (instance : PlainInstance) (tree : SearchTree) (cap : ℕ) (e : Explored) : Type 0 where
   pub told_so : plain_outcome e.outcome ≡ under_budget cap (outcome tree)
   pub left : IfSome e.left (IsWalkOf instance tree)

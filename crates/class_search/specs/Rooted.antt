@@ -43,7 +43,7 @@ pub record HasPassed (instance : PlainInstance) (scales : Bool) (es fs : List Ex
   pub extends : Extends instance es fs
   pub closed : IsClosure instance es fs
 
--- what the tests of a root tell, which has these exclusions, and whose state has those now
+-- what the tests show of a root that has the exclusions `es`, and whose state now has `fs`
 abbrev pub IsTested : PlainInstance → Bool → List Exclusion → List Exclusion → RootTest → Type 0
 IsTested instance scales es fs (TestRefuted token) =
     class_tree instance es scales ≡ Refuted (plain_token token ∷ []) 0

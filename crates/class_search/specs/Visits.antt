@@ -68,7 +68,7 @@ pub record IsMet (instance : PlainInstance) (old new : List Exclusion) (kind : N
   pub tree : tree_below instance old ≡ kind_tree instance new kind
   pub known : IsKind instance new kind
 
--- a split, if it is one, is of two boxes of so many in a dimension of so many
+-- a split, if it is one, is of two of `n` boxes in one of `d` dimensions
 abbrev pub IsAmong : ℕ → ℕ → NodeKind → Type 0
 IsAmong d n Conflict = Unit {0}
 IsAmong d n Settled = Unit {0}

@@ -97,8 +97,8 @@ pub record IsWalk (instance : PlainInstance) (es : List Exclusion) (w : Walk) : 
       w.tokens w.count
   pub known : IsKind instance es w.node
 
--- what becomes of the walk through a tree under a cap: what is told of it, or a walk through the
--- same tree, whose count exceeds the cap
+-- what becomes of the walk through a tree under a cap: the outcome of the tree, or a walk through
+-- the same tree, whose count exceeds the cap
 abbrev pub IsEndOf : PlainInstance → List Exclusion → ℕ → SearchTree → End → Type 0
 IsEndOf instance es cap tree (Whole r) = plain_outcome r ≡ under_budget cap (outcome tree)
 IsEndOf instance es cap tree (Stopped w) = IsWalk instance es w × (walk_tree instance es w ≡ tree)

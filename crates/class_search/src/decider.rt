@@ -79,7 +79,7 @@ impl Decider {
             * (box_count instance.now - 1) / 2) ≤ budget + 1
             → IfOk result (λ r. IsYesOrNo (plain_outcome r)) }
     {
-        // For the proof alone: tells the limits of the instance.
+        // For the proof alone: states the limits of the instance.
         let _limits = instance.len();
         let search = Search {
             alloc,

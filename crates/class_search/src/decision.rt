@@ -40,9 +40,9 @@ pub fn decide_alone(
     decider.decide(alloc, instance, budget, scales)
 }
 
-/// Whether an instance fits, as `decide_alone` answers it, with a state and the room of a closing
-/// that are handed in, so that many decisions use the same. The state is one for as many dimensions
-/// and boxes, with all masks full, and so is the room; afterwards the state holds any exclusions.
+/// Whether an instance fits, as `decide_alone` answers it. The caller passes the state and the room
+/// of a closing, so that many decisions use the same. Both have the numbers of dimensions and boxes
+/// of the instance. All masks of the state are full; afterwards it holds any exclusions.
 pub fn decide_in(
     alloc: Global,
     instance: &Instance,
@@ -61,7 +61,7 @@ pub fn decide_in(
         (λ r. plain_outcome r ≡ under_budget budget (outcome (class_tree instance.now [] scales))) }
     ensures right { IfOk result (λ r. IsRight instance.now [] (plain_outcome r)) }
 {
-    // For the proof alone: tells the limits of the instance.
+    // For the proof alone: states the limits of the instance.
     let _limits = instance.len();
     searched_alone(alloc, instance, state, closer, budget, scales)
 }
@@ -86,7 +86,7 @@ pub fn decide<R: Threads + Wait + Sync, G: Gate + Sync>(
         * (box_count instance.now - 1) / 2) ≤ settings.now.budget + 1
         → IfOk result (λ r. IsYesOrNo (plain_outcome r)) }
 {
-    // For the proof alone: tells the limits of the instance.
+    // For the proof alone: states the limits of the instance.
     let _limits = instance.len();
     let tree = ClassTree::new(alloc, instance, settings.scales)?;
     tree.solve(rt, alloc, settings, gate)

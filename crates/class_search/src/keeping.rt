@@ -154,8 +154,8 @@ impl<'a> Model for ResumableTree<'a> {
     ghost view = { λ t. t.tree.now };
 }
 
-// How often a room in use is tried again. It is in use for a look through its pieces, which is
-// shorter than so many tries.
+// How often a room in use is tried again. It is in use for a look through its pieces, which takes
+// less time than `MAX_LOCK_TRIES` tries.
 const MAX_LOCK_TRIES: u32 = 10_000;
 
 // Tries to lock a list, at most `MAX_LOCK_TRIES` times. It never blocks, because `Tree::explore` has no
@@ -331,10 +331,10 @@ impl<'a> ClassTree<'a> {
     ///
     /// With more than one worker, a walk that has spent the cap of its task is kept: its state, the
     /// splits on its way and what it has met. As the task is split, what it has finished of the
-    /// first child stands ready for whoever takes that child, and the walk waits for whoever takes
-    /// the child in which it stands, and goes on there. So at most one state waits for each task
-    /// that waits or was given up. Without memory to keep a walk, or where others are in the room
-    /// of the walks for long, its node is begun anew, and nothing else is lost.
+    /// first child stands ready for the worker that takes that child. The walk waits for the worker
+    /// that takes the child in which it stands, and goes on there. So at most one state waits for
+    /// each task that waits or was given up. Without memory to keep a walk, or where others are in
+    /// the room of the walks for long, its node is begun anew, and nothing else is lost.
     pub fn solve<R: Threads + Wait + Sync, G: Gate + Sync>(
         &self,
         rt: &R,

@@ -54,7 +54,7 @@ pub(crate) struct Division<'a> {
     pub parts: WalkSplit<'a>,
 }
 
-// What exploring gives: what is told, and the walk where the cap was spent.
+// What exploring gives: the outcome, and the walk where the cap was spent.
 #[derive(Drop)]
 pub(crate) struct Explored<'a> {
     pub outcome: Outcome,
@@ -73,7 +73,7 @@ impl<'a> PausedWalk<'a> {
         requires known { IsPausedWalk self }
         ensures { IfOk result (IsExplored self.entry.instance.now (standing_tree self.entry) cap) }
     {
-        // For the proof alone: tells the limits of the instance.
+        // For the proof alone: states the limits of the instance.
         let _limits = self.instance.len();
         let PausedWalk {
             instance,
@@ -115,7 +115,7 @@ impl<'a> PausedWalk<'a> {
         ensures { IfOk result
             (λ r. IfSome r (IsDivisionOf self.entry.instance.now (standing_tree self.entry))) }
     {
-        // For the proof alone: tells the limits of the instance.
+        // For the proof alone: states the limits of the instance.
         let _limits = self.instance.len();
         let PausedWalk {
             instance,
@@ -178,7 +178,7 @@ impl<'a> PausedWalk<'a> {
 }
 
 impl Refuted {
-    // What is told of it under a cap.
+    // Its outcome under a cap.
     fn told(self, cap: u64) -> Outcome
         ensures { (tree : SearchTree)
             → outcome tree ≡ No self.tokens self.count

@@ -76,8 +76,8 @@ fn scales_token(alloc: Global, instance: &Instance, scales: bool) -> Option<Toke
     Some(Token::Scales(tuple))
 }
 
-// What the tests of a root tell: one of its own refutes it, its closure has a conflict, or it passed
-// them and is closed.
+// What the tests of a root show: one of its own refutes it, its closure has a conflict, or it
+// passed them and is closed.
 #[derive(Drop)]
 pub(crate) enum RootTest {
     Refuted(Token),

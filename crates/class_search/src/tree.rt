@@ -138,7 +138,7 @@ impl<'a> ClassTree<'a> {
         ensures node { IsArrival self.now.instance (node_at (Some (shape self.now)) path.now)
             state.new.trail result }
     {
-        // For the proof alone: tells the limits of the instance.
+        // For the proof alone: states the limits of the instance.
         let _limits = self.instance.len();
         let search = Search {
             alloc,
@@ -239,7 +239,7 @@ impl<'a> Tree for ClassTree<'a> {
             * (box_count self.now.instance - 1) / 2) ≤ cap + 1
             → IfOk result (λ r. IsYesOrNo (plain_outcome r)) }
     {
-        // For the proof alone: tells the limits of the instance.
+        // For the proof alone: states the limits of the instance.
         let _limits = self.instance.len();
         self.explore_node(alloc, path, cap)
     }

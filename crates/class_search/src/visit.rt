@@ -1,4 +1,4 @@
-//! Visits of nodes: a state is closed, and what kind of node it is is told.
+//! Visits of nodes: a state is closed, and the kind of its node is returned.
 ghost use Rattle.std.specs.Prelude.{◌≡◌, ◌<◌, ℕ, false};
 ghost use Rattle.packing_terms.specs.Packing.{dims, box_count};
 ghost use Rattle.packing_terms.specs.Limits.{IsInternalInstance};
@@ -16,7 +16,7 @@ use edge_state::EdgeState;
 use rule_closure::{Closed, Closer};
 
 // What a node is: one with a conflict, one whose pairs are all settled, or one that is split at the
-// first unsettled pair, whose position by rank is told.
+// first unsettled pair, whose position by rank is `rank`.
 #[derive(Clone, Copy, Debug, PartialEq, Eq)]
 pub(crate) enum NodeKind {
     Conflict,
@@ -44,7 +44,7 @@ pub(crate) fn next_kind(search: &Search<'_>, state: &EdgeState, from: usize) -> 
     NodeKind::Divided { split, rank }
 }
 
-// Closes the state of the root of an inner tree, and tells its kind.
+// Closes the state of the root of an inner tree, and returns its kind.
 pub(crate) fn visit_root(
     search: &Search<'_>,
     state: &mut EdgeState,
@@ -66,7 +66,7 @@ pub(crate) fn visit_root(
 }
 
 // Goes from a node that is split, whose closed state this is, to a child. It closes what follows
-// from the child's own exclusions, and tells the child's kind.
+// from the child's own exclusions, and returns the child's kind.
 pub(crate) fn visit_child(
     search: &Search<'_>,
     state: &mut EdgeState,

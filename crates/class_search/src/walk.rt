@@ -24,7 +24,7 @@ use rule_closure::Closer;
 use std::alloc::Global;
 use work_share::Node;
 
-// What was finished of a subtree: so many tokens, and this count.
+// What was finished of a subtree: the number of its tokens, and its count.
 #[derive(Clone, Copy)]
 pub(crate) struct Size {
     pub tokens: usize,
@@ -208,7 +208,7 @@ pub(crate) fn resume_walk(
                 };
                 state.undo(frame.mark);
                 if let Some(first) = frame.first {
-                    // For the proof alone: tells the limit of the tokens.
+                    // For the proof alone: states the limit of the tokens.
                     let _len = tokens.len();
                     place = Place::Over(size.behind(first));
                 } else {
@@ -221,7 +221,7 @@ pub(crate) fn resume_walk(
     }
 }
 
-// Goes from a node down a path. Both nodes are told by their kind and their closed state.
+// Goes from a node down a path. Both nodes are given by their kind and their closed state.
 pub(crate) fn descend(
     search: &Search<'_>,
     state: &mut EdgeState,
@@ -257,7 +257,7 @@ pub(crate) fn descend(
     node
 }
 
-// What is told of a node of this kind.
+// What is reported of a node of this kind.
 pub(crate) fn told(node: NodeKind) -> Node
     requires { IsAmong 4 128 node }
     ensures { (instance : PlainInstance) (es : List PlainExclusion)

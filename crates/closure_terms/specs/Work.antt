@@ -85,7 +85,7 @@ pub record IsCovered (instance : PlainInstance) (seen : Exclusions) (es : List E
 abbrev pub IsExhausted : PlainInstance → List Exclusion → Rule → Type 0
 IsExhausted instance es rule = IsCovered instance (excludes es) es rule
 
--- The state grew by what follows. Where it is told that a mask is empty, one is; else these
+-- The state grew by what follows. Where `emptied` is true, a mask is empty; else these
 -- instances cover what they add by the old exclusions.
 pub record HasApplied (instance : PlainInstance) (old new : PlainEdges) (emptied : Bool) (Rules : Rule → Type 0) :
     Type 0 where

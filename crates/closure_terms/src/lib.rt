@@ -1,5 +1,6 @@
-//! What any closing of a state needs, whoever closes it: which instances of the rules read an edge,
-//! what is covered and settled after one change more, and what the two ends of a closing say.
+//! What any closing of a state needs, whatever function closes it: which instances of the rules
+//! read an edge, what is covered and settled after one change more, and what the two ends of a
+//! closing say.
 //!
 //! There is no program here. Each law stands as the contract of a function that does nothing.
 #![tactic(auto)]

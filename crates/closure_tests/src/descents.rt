@@ -125,7 +125,7 @@ fn try_both(
     None
 }
 
-// Draws so many exclusions one after another and closes each in both ways; counts those that stay.
+// Draws `steps` exclusions one after another and closes each in both ways; counts those that stay.
 // `None` comes where the two ways differ.
 fn descend(
     instance: &Instance,

@@ -41,7 +41,7 @@ fn close_among_many(
     close_both(alloc, random, 9, &instance, numbers, &mut plain)
 }
 
-// So many boxes, and the numbers of eight of them.
+// How many boxes there are, and the numbers of eight of them.
 const AMONG: [(usize, [u32; 8]); 3] = [
     (64, [63, 0, 62, 1, 32, 31, 61, 2]),
     (65, [64, 0, 63, 1, 62, 32, 31, 61]),
@@ -99,7 +99,7 @@ fn close_chain(
     Some(closed)
 }
 
-// What closing a chain of so many boxes comes to in a container of this length.
+// What closing a chain of `boxes` boxes comes to in a container of this length.
 fn close_row(alloc: Global, boxes: u8, container: u32) -> Result<Option<Closed>, Fail> {
     let sides = [[1; 4]; 128];
     let own = sides.get(..usize::from(boxes)).unwrap_or(&[]);

@@ -27,7 +27,7 @@ fn spot(i: u8, u: u8, v: u8, r: u8) -> usize {
 }
 
 impl PlainState {
-    /// A state of so many boxes with nothing excluded, with the first of these sides.
+    /// A state of `boxes` boxes with nothing excluded, with the first of these sides.
     pub fn new(dims: u8, boxes: u8, container: u32, sides: &[[u32; 4]]) -> PlainState {
         let mut first = [[1; 4]; MOST];
         for (own, given) in first.iter_mut().zip(sides) {

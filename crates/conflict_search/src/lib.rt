@@ -1,8 +1,8 @@
 //! Proposed refutations: a tree over the same rules as every other, with splits of its own choice,
 //! by what conflicts rest on.
 //!
-//! Of what it proposes nothing is promised but sizes: whoever takes it tests it. So it is free to
-//! be clever, and is proved to be safe and to end, and nothing else.
+//! Of what it proposes nothing is promised but sizes: the caller tests it. So it is free to be
+//! clever, and is proved to be safe and to end, and nothing else.
 #![tactic(auto)]
 
 mod causes;

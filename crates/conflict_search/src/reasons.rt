@@ -19,7 +19,7 @@ pub struct ConflictAnalyzer {
 }
 
 impl ConflictAnalyzer {
-    /// Room for so many facts.
+    /// Room for `fact_count` facts.
     pub fn new(alloc: Global, fact_count: usize) -> Result<ConflictAnalyzer, NoMemory> {
         Ok(ConflictAnalyzer {
             met: zeros(alloc, fact_count)?,

@@ -86,8 +86,8 @@ fn explored(alloc: Global, instance: &Instance, splits: u64) -> Result<Proposal,
 /// A refutation of the instance, or the places of a settled node that its tree met, or nothing.
 ///
 /// Nothing is promised of the tokens, and of places only that there is one coordinate for each box
-/// and dimension: whoever takes them tests them. The search makes at most so many splits, and for
-/// more than 64 boxes none. With `scales` the refutation by scale functions is tried at the root.
+/// and dimension: the caller tests them. The search makes at most `splits` splits, and for more
+/// than 64 boxes none. With `scales` the refutation by scale functions is tried at the root.
 pub fn propose_refutation(
     alloc: Global,
     instance: &Instance,

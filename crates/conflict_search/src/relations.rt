@@ -1,6 +1,6 @@
 //! Relations of two boxes as bits, sets of boxes as bits, and what a composition needs.
 
-/// A set of boxes, one bit each. So the search takes at most so many boxes as a word has bits: rows
+/// A set of boxes, one bit each. So the search takes at most as many boxes as a word has bits: rows
 /// of two words took 1.4 times the instructions, and no larger instance was ever refuted so.
 pub type Row = u64;
 
@@ -48,7 +48,7 @@ pub(crate) fn below(count: u32) -> Row {
     }
 }
 
-/// The same relations, told from the other box.
+/// The same relations, seen from the other box.
 #[inline]
 pub(crate) fn turned(bits: u8) -> u8 {
     match bits & ORDERS {

@@ -21,8 +21,8 @@ use lenient_lists::{at, pushed, put};
 use proof_tree::Token;
 use std::alloc::Global;
 
-// For so many splits the children of several pairs are closed before one is chosen. That makes
-// small trees smaller, and large ones dearer.
+// The number of splits for which the children of several pairs are closed before one is chosen.
+// That makes small trees smaller, and large ones dearer.
 const LOOKAHEAD_SPLITS: u64 = 20_000;
 
 // What refutes a node: its tree, and the splits above on which that rests.
@@ -209,7 +209,7 @@ impl Search {
         self.backjump(leaf)
     }
 
-    /// Searches with at most so many splits.
+    /// Searches with at most `most` splits.
     pub fn run(&mut self, most: u64) -> Result<Ended, NoMemory> {
         let calm = close_root(&mut self.state, &mut self.chains)?;
         let mut now = stands(calm);

@@ -1,7 +1,7 @@
 //! The state of a node: what is excluded, and which exclusions each of them came from.
 //!
 //! It is a closing of its own beside that of the class tree, for the sake of the premises. Nothing
-//! of it is proved but that it is safe and ends: what it leads to is tested by whoever takes it.
+//! of it is proved but that it is safe and ends: what it leads to is tested by the caller.
 
 use crate::relations::{AFTER, ALL, BEFORE, OVERLAP, turned};
 use crate::table::{Edge, Table};
@@ -189,7 +189,7 @@ impl State {
         self.level
     }
 
-    /// From now on so many splits are above.
+    /// From now on `level` splits are above.
     #[inline]
     pub fn set_level(&mut self, level: usize) {
         self.level = level;

@@ -16,7 +16,7 @@ pub struct Edge {
 }
 
 impl Edge {
-    /// The same, told from the other box.
+    /// The same, seen from the other box.
     #[inline]
     pub fn turned(self) -> Edge {
         Edge {

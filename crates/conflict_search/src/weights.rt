@@ -10,7 +10,7 @@ use std::alloc::Global;
 // The weight that a pair begins with in a dimension, and what the first conflict adds to it.
 const UNIT: u64 = 1024;
 
-// A weight is never more than about so many times the least one, before all become smaller.
+// A weight is never more than about `MOST` times the least one, before all become smaller.
 const MOST: u64 = 1 << 44;
 
 /// The weight of each two boxes in each dimension.

@@ -65,7 +65,7 @@ module _ (instance : PlainInstance) (c : ℕ) (rest : List ScaleFn) where
       go (inl s) = rw s e
       go (inr s) = h k (omega (arith, s, l))
 
--- what the products with a function tell of the tuple
+-- the products with a function show whether the tuple has an excess
 pub tuple_tested : (instance : PlainInstance) (c : ℕ) (rest : List ScaleFn) (f : ScaleFn) (images : ℕ → ℕ)
     (total : ℕ) (b : Bool) → IsInternalInstance instance → SidesFit instance → 0 < dims instance
     → IsLegalScale f (container_side instance 0) → IsPartial instance 1 rest images total

@@ -5,7 +5,7 @@ use Rattle.packing_terms.specs.Packing.{PlainInstance, box_count, container_side
 use Rattle.packing_terms.specs.Scales.{scale_image, function_at, IsLegalScale}
 use Rattle.packing_terms.specs.Tuples.{functions_of}
 
--- for each of so many functions a row with the image of each box
+-- for each of `count` functions a row with the image of each box
 pub record AreRows (instance : PlainInstance) (count : ℕ) (fs : List ScaleFn) (images_of : List ℕ) : Type 0 where
   pub legal : (j : ℕ) → j < count → IsLegalScale (function_at fs j) (container_side instance 0)
   pub images : (j v : ℕ) → j < count → v < box_count instance
@@ -18,7 +18,7 @@ pub record AreAllRows (instance : PlainInstance) (count : ℕ) (fs : List ScaleF
   pub all : functions_of instance 0 ≡ take count fs
   pub few : count ≤ length fs
 
--- room for all functions of dimension 0, so many, and for their rows, so many places
+-- room for all functions of dimension 0 in a list of `most`, and for their rows in `places` places
 pub record HasRoomForAll (instance : PlainInstance) (most places : ℕ) : Type 0 where
   pub each : 2 * box_count instance + 7 ≤ most
   pub row : most * box_count instance ≤ places

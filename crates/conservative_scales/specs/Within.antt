@@ -7,7 +7,7 @@ use Rattle.packing_terms.specs.declared.ScaleFn.{ScaleFn}
 use Rattle.packing_terms.specs.declared.ScaleFn.TheVariants.{Id}
 use Rattle.packing_terms.specs.Tuples.{functions_after}
 
--- the choices for the dimensions below i with at most so many functions other than id, before the
+-- the choices for the dimensions below `i` with at most `left` functions other than id, before the
 -- given functions
 abbrev pub within : PlainInstance → ℕ → ℕ → List ScaleFn → List (List ScaleFn)
 within instance zero left rest = rest ∷ []

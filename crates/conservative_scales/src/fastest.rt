@@ -15,8 +15,8 @@ use crate::rows::need_rows;
 use box_instances::Instance;
 use packing_terms::ScaleFn;
 
-// A whole has so many parts: a multiple of each number up to 16, so that up to 16 equal shares of
-// it are exact.
+// The number of parts of a whole: a multiple of each number up to 16, so that up to 16 equal shares
+// of a whole are exact.
 const PARTS: u32 = 720_720;
 
 // Sums of products with a container's product up to this one are numbers of 64 bits: a whole in
@@ -115,8 +115,8 @@ fn may_exceed(
     total > copies as u128 * whole * PARTS as u128
 }
 
-// Whether a function in dimension 0 makes products that are together greater than those of so many
-// containers, where those so far are small: numbers of 64 bits take half of the steps.
+// Whether a function in dimension 0 makes products that are together greater than those of `copies`
+// containers, where the products so far are small: numbers of 64 bits take half of the steps.
 fn exceeds_narrow(
     instance: &Instance,
     copies: u32,
@@ -153,7 +153,7 @@ fn exceeds_narrow(
     total > copies as u64 * held
 }
 
-// Whether a function in dimension 0 makes products that are together greater than those of so many
+// Whether a function in dimension 0 makes products that are together greater than those of `copies`
 // containers. Its images begin at a place of their table.
 fn exceeds_with(
     instance: &Instance,
@@ -267,7 +267,7 @@ fn try_rows(
 
 // Whether a tuple exceeds that ends in the functions from dimension 1 on, whose products begin at a
 // place of the table, and whose function of dimension 0 is id where `left` is 0. The first one is
-// left in `tuple`. The functions of dimension 0 are told only once one of them may exceed.
+// left in `tuple`. The functions of dimension 0 are listed only once one of them may exceed.
 pub(crate) fn search_fastest(
     instance: &Instance,
     copies: u32,

@@ -1,7 +1,7 @@
 //! The functions of dimension 0 and what they make of the boxes.
 //!
-//! They are the same whichever functions the other dimensions have, so they are told once, and only
-//! where some tuple comes so far. The images stand in a row for each function, one for each box.
+//! They are the same whichever functions the other dimensions have, so they are listed once, and
+//! only where some tuple needs them. The images stand in a row for each function, one for each box.
 ghost use Rattle.std.specs.Prelude.{◌≡◌, ◌<◌, ◌≤◌, ◌+◌, ◌*◌, ℕ, length, slice_index, slice_set};
 ghost use Rattle.packing_terms.specs.Packing.{dims, box_count, container_side, side};
 ghost use Rattle.packing_terms.specs.Limits.{IsInternalInstance};
@@ -38,7 +38,7 @@ fn put(instance: &Instance, f: ScaleFn, row: usize, functions: &mut [ScaleFn], m
     functions[row] = f;
 }
 
-// Puts all functions, and tells how many there are.
+// Puts all functions, and returns how many there are.
 fn put_all(instance: &Instance, functions: &mut [ScaleFn], made: &mut [u32]) -> usize
     requires limits { IsInternalInstance instance.now }
     requires there { 1 ≤ dims instance.now }
@@ -58,7 +58,7 @@ fn put_all(instance: &Instance, functions: &mut [ScaleFn], made: &mut [u32]) -> 
     row
 }
 
-/// Sees that all functions stand there, of which so many do.
+/// Makes sure that all functions are listed. `told` is how many are: all or none.
 pub(crate) fn need_rows(
     instance: &Instance,
     functions: &mut [ScaleFn],

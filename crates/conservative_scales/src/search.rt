@@ -35,8 +35,8 @@ fn whole_of(instance: &Instance, dim: u32, f: ScaleFn) -> u128
 
 // Whether a tuple exceeds that ends in the functions from `dim` on, whose products begin at a place
 // of the table, and that has at most `left` functions other than id before them. The first one is
-// left in `tuple`. So many functions of dimension 0 as are `told` stand in their list, and what they
-// made of the boxes beside it: all or none.
+// left in `tuple`. The list of the functions of dimension 0 holds `told` of them, all or none. What
+// they made of the boxes stands beside it.
 fn search(
     instance: &Instance,
     copies: u32,
@@ -145,8 +145,8 @@ fn copied(alloc: Global, functions: &[ScaleFn]) -> ScaleTuple
     tuple
 }
 
-// The first tuple of the list that exceeds, found in a table of so many places, with room for so
-// many functions of dimension 0 and so many of their images.
+// The first tuple of the list that exceeds, found in a table of `T` places, with room for `F`
+// functions of dimension 0 and `R` of their images.
 fn first_within<const T: usize, const F: usize, const R: usize>(
     alloc: Global,
     instance: &Instance,
@@ -209,8 +209,8 @@ fn first_of(alloc: Global, instance: &Instance, copies: u32) -> Option<ScaleTupl
     first_within::<640, 263, 33664>(alloc, instance, copies)
 }
 
-/// The first tuple of the list that exceeds, and none exactly where none of the list does. Then the
-/// boxes don't fit in so many bins.
+/// The first tuple of the list that exceeds, and none exactly where none of the list does. Where
+/// there is one, the boxes don't fit in `copies` bins.
 pub fn first_exceeding(alloc: Global, instance: &Instance, copies: u32) -> Option<ScaleTuple>
     requires fit { SidesFit instance.now }
     requires few { copies ≤ 128 }
@@ -219,7 +219,7 @@ pub fn first_exceeding(alloc: Global, instance: &Instance, copies: u32) -> Optio
     ensures exceeds { IfSome result (λ t. Exceeds instance.now t.items copies) }
     ensures refutes { IfSome result (λ t. ¬ FitsInBins instance.now copies) }
 {
-    // For the proof alone: tells the limits of the instance.
+    // For the proof alone: states the limits of the instance.
     let _limits = instance.len();
     first_of(alloc, instance, copies)
 }

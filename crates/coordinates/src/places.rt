@@ -53,7 +53,7 @@ pub fn place_from(state: &EdgeState, instance: &Instance, into: &mut [u32])
     ensures ends { (v i : ℕ) → v < box_count instance.now → i < dims instance.now
         → IsGreatestEnd instance.now (excludes state.now.trail) into.new i v }
 {
-    // For the proof alone: tells the limits of the state.
+    // For the proof alone: states the limits of the state.
     let _sizes = state.dims();
     let mut weights = [0u64; MAX_BOXES];
     let head = &mut weights[..instance.len() as usize];

@@ -160,7 +160,7 @@ from_start heading old left before now result from =
     }) in
     record { taken = r.taken; gives = r.gives; faults = r.faults; comes = r.comes }
 
--- lines of a judge that tells where the document stands behind them
+-- lines of a judge that states where the document stands behind them
 pub goes_known : (old left : Option (List ℕ)) (before now : FaultCount) (at next : Position) (judge : PlainJudge)
     (stage behind known : Stage) (result : Option CheckEnd)
     → judge ≡ record { stage = stage; takes = true; behind = Some known }

@@ -61,8 +61,8 @@ pub record IsCheckedBehind (heading : Heading) (front : List ℕ) (old left : Op
   pub faults : CountsCheck before now result
   pub comes : Comes heading left taken result
 
--- What the rest of a document comes to under any heading, behind so many bytes that were taken before and left
--- the document at a stage: `front` are the first of them, and `first` is what the source told before these.
+-- What the rest of a document comes to under any heading, behind `count` bytes that were taken before and left
+-- the document at a stage: `front` are the first of them, and `first` is what the source held before these.
 abbrev pub IsRestChecked : Option (List ℕ) → Option (List ℕ) → FaultCount → FaultCount → Lexer → Stage → ℕ → CheckEnd
     → Type 0
 IsRestChecked old left before now s stage count result =

@@ -18,7 +18,7 @@ use pack_streams::Source;
 use std::alloc::Global;
 
 // `proof`, and the tokens of a refutation with families, of an instance of `dim_count` dimensions.
-// `None` tells that it is whole.
+// `None` says that it is whole.
 fn read_families<S: Source>(
     alloc: Global,
     input: &mut S,
@@ -59,7 +59,7 @@ fn check_family_end<S: Source>(
     match give_lines(input, at, &mut judge) {
         Some(end) => end,
         None => {
-            // For the proof alone: tells that it never pauses.
+            // For the proof alone: states that it never pauses.
             let _never = judge.is_paused();
             unreachable!()
         }

@@ -48,7 +48,7 @@ fn check_end<S: Source>(
     match give_lines(input, at, &mut judge) {
         Some(end) => end,
         None => {
-            // For the proof alone: tells that it never pauses.
+            // For the proof alone: states that it never pauses.
             let _never = judge.is_paused();
             unreachable!()
         }
@@ -313,7 +313,7 @@ pub(crate) fn check_heights<S: Source>(
         at.old (Placing head.now.heading (with_last_side head.now.instance reached) head.now.claim
         (refutation_goal head.now.heading head.now.instance head.now.claim) []) result }
 {
-    // For the proof alone: tells that there is a last dimension.
+    // For the proof alone: states that there is a last dimension.
     let _some_dims = head.instance.dims();
     let Ok(held) = head.instance.with_last_side(alloc, reached) else {
         return CheckEnd::NoMemory;

@@ -45,7 +45,7 @@ fn end_of(ended: Option<Claim>, lines: u64) -> CheckEnd
     }
 }
 
-/// Gives a judge its lines. `None` tells that the next line is for another judge.
+/// Gives a judge its lines. `None` says that the next line is for another judge.
 pub(crate) fn give_lines<S: Source, J: LineJudge>(
     input: &mut S,
     at: &mut Position,

@@ -42,7 +42,7 @@ pub(crate) fn read_head<S: Source>(
     }
 }
 
-/// The places of all boxes in a container that may have another last side. `None` tells that they
+/// The places of all boxes in a container that may have another last side. `None` says that they
 /// are a packing.
 pub(crate) fn read_places<S: Source>(
     alloc: Global,
@@ -65,7 +65,7 @@ pub(crate) fn read_places<S: Source>(
     give_lines(input, at, &mut judge)
 }
 
-/// The bins and places of all boxes. `None` tells that they are a packing of `bin_count` bins.
+/// The bins and places of all boxes. `None` says that they are a packing of `bin_count` bins.
 pub(crate) fn read_shares<S: Source>(
     alloc: Global,
     input: &mut S,
@@ -84,12 +84,12 @@ pub(crate) fn read_shares<S: Source>(
 {
     let mut judge = BinPlaceReader::new(alloc, instance, claim, bin_count);
     let end = give_lines(input, at, &mut judge);
-    // For the proof alone: tells that no side exceeds the container's where all bins were taken.
+    // For the proof alone: states that no side exceeds the container's where all bins were taken.
     let _are_shared = judge.are_shared();
     end
 }
 
-/// The taken boxes, up to `proof`. `None` tells that they are a packing of at least the value.
+/// The taken boxes, up to `proof`. `None` says that they are a packing of at least the value.
 pub(crate) fn read_taken<S: Source>(
     alloc: Global,
     input: &mut S,
@@ -109,7 +109,7 @@ pub(crate) fn read_taken<S: Source>(
 }
 
 /// The token that a box exceeds the container in one of the first `dim_count` dimensions. `None`
-/// tells that it does.
+/// says that it does.
 pub(crate) fn read_exceeding<S: Source>(
     alloc: Global,
     input: &mut S,

@@ -45,7 +45,7 @@ fn check_plain_value<S: Source>(
     }
 }
 
-// The tokens of a bounded refutation, of an instance of `dim_count` dimensions. `None` tells that it
+// The tokens of a bounded refutation, of an instance of `dim_count` dimensions. `None` says that it
 // is whole.
 fn read_bounded<S: Source>(
     alloc: Global,
@@ -88,7 +88,7 @@ fn check_bound_end<S: Source>(
     match give_lines(input, at, &mut judge) {
         Some(end) => end,
         None => {
-            // For the proof alone: tells that it never pauses.
+            // For the proof alone: states that it never pauses.
             let _never = judge.is_paused();
             unreachable!()
         }

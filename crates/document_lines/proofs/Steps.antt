@@ -221,7 +221,7 @@ single (x ∷ y ∷ xs) e = absurd (omega (arith, e))
 begins_more : (front taken : List ℕ) (b : ℕ) → Begins front taken → Begins front (taken ++ b ∷ [])
 begins_more front taken b h = (h.0 ++ b ∷ [], ap (λ xs. xs ++ b ∷ []) h.1 ∙ append_assoc front h.0 (b ∷ []))
 
--- so many bytes were taken, and then a read that didn't fail
+-- `n` bytes were taken, and then a read didn't fail
 module _ (heading : Heading) (front : List ℕ) (limit m : ℕ) (old mid now : Option (List ℕ)) (before after : FaultCount)
     (s : Lexer) (stage : Stage) (n : ℕ) (so_far : IsTaking heading front old mid s stage n)
     (stays : Stays before after) where
@@ -361,7 +361,7 @@ module _ (heading : Heading) (front : List ℕ) (limit m : ℕ) (old mid now : O
         ends = (l.counted ∙ sym counted, l.so_far);
       }
 
--- so many bytes were taken, and then a read failed
+-- `n` bytes were taken, and then a read failed
 pub fails_here : (heading : Heading) (front : List ℕ) (limit m : ℕ) (old mid now : Option (List ℕ)) (before after : FaultCount)
     (s : Lexer) (stage : Stage) (n : ℕ) → IsTaking heading front old mid s stage n → FailedOnce before after
     → n ≤ limit → now ≡ mid → IsRead heading front limit old now before after s stage m ReadFault

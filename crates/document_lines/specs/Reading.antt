@@ -46,7 +46,7 @@ pub record IsSoFar (heading : Heading) (s : Lexer) (stage : Stage) (taken : List
 abbrev pub Begins : List ℕ → List ℕ → Type 0
 Begins front bytes = (rest : List ℕ) × (bytes ≡ front ++ rest)
 
--- so many bytes were taken, of which these were the first
+-- `count` bytes were taken, of which `front` were the first
 pub record IsTaking (heading : Heading) (front : List ℕ) (old now : Option (List ℕ)) (s : Lexer) (stage : Stage)
     (count : ℕ) : Type 0 where
   pub taken : List ℕ
@@ -104,7 +104,7 @@ pub record IsRead (heading : Heading) (front : List ℕ) (limit : ℕ) (old left
   pub ends : EndsAs heading limit left taken s stage count result
 
 -- What a reading does under any heading, behind any bytes that were taken before: `front` are the first of
--- them, and `first` is what the source told before these.
+-- them, and `first` is what the source held before these.
 abbrev pub IsReadBehind : ℕ → Option (List ℕ) → Option (List ℕ) → FaultCount → FaultCount → Lexer → Stage → ℕ → Lexer
     → Stage → ℕ → ReadEnd → Type 0
 IsReadBehind limit old left before now s stage n new next count result =

@@ -61,7 +61,7 @@ fn bin_reason(
     ensures { IfOk result (λ r. r ≡ groups_reason
         (bin_group instance.now bins.now places.now bin ∷ [])) }
 {
-    // For the proof alone: tells the limits of the instance.
+    // For the proof alone: states the limits of the instance.
     let _most_boxes = instance.len();
     boxes_in(bins, bin, keep)?;
     if keep.is_empty() {

@@ -33,7 +33,7 @@ fn feed(refuter: &mut OuterRefuter<'_>, token: &BoundedToken) -> FeedVerdict
     refuter.feed_bounded(token)
 }
 
-// Takes a line where a token is wanted, and tells whether the tree is whole behind it.
+// Takes a line where a token is wanted, and returns whether the tree is whole behind it.
 fn take_token(
     alloc: Global,
     refuter: &mut OuterRefuter<'_>,

@@ -29,7 +29,7 @@ fn none_claim(line: &LineLexer, claim: Claim) -> Result<Claim, Reason>
     requires { 2 ≤ length line.now.held.words }
     ensures { result ≡ none_claim claim (slice_index_or line.now.held.words 1 []) }
 {
-    // For the proof alone: tells the limits of the line's words.
+    // For the proof alone: states the limits of the line's words.
     let _count = line.word_count();
     if is_same(line.word(1), b"none") {
         Ok(claim)
@@ -47,7 +47,7 @@ fn one_number(line: &LineLexer, key: &[u8], low: u128, high: u128) -> Result<u64
         ≡ one_claim key.now low high make (slice_index_or line.now.held.words 1 [])
         (slice_index_or line.now.held.words 2 []) }
 {
-    // For the proof alone: tells the limits of the line's words.
+    // For the proof alone: states the limits of the line's words.
     let _count = line.word_count();
     if !is_same(line.word(1), key) {
         return Err(FORM);
@@ -69,7 +69,7 @@ fn two_numbers(line: &LineLexer, high: u128) -> Result<(u64, u64), Reason>
         ≡ two_claim high make (slice_index_or line.now.held.words 1 [])
         (slice_index_or line.now.held.words 2 []) (slice_index_or line.now.held.words 3 []) }
 {
-    // For the proof alone: tells the limits of the line's words.
+    // For the proof alone: states the limits of the line's words.
     let _count = line.word_count();
     if !is_same(line.word(1), b"between") {
         return Err(FORM);

@@ -34,7 +34,7 @@ fn feed(refuter: &mut FamilyRefuter<'_>, token: &FamilyToken) -> FeedVerdict
     refuter.feed(token)
 }
 
-// Takes a line where a token is wanted, and tells whether the tree is whole behind it.
+// Takes a line where a token is wanted, and returns whether the tree is whole behind it.
 fn take_token(
     alloc: Global,
     refuter: &mut FamilyRefuter<'_>,

@@ -24,7 +24,7 @@ pub(crate) fn group_reason(set: &Instance, keep: &[u32], places: &[u32]) -> Opti
     requires places { length places.now ≡ box_count set.now * dims set.now }
     ensures { result ≡ groups_reason ((keep.now, place_verdict set.now places.now) ∷ []) }
 {
-    // For the proof alone: tells the limits of the set's instance.
+    // For the proof alone: states the limits of the set's instance.
     let _most_dims = set.dims();
     match check_places(set, places) {
         PlaceVerdict::Good => None,

@@ -40,7 +40,7 @@ pub trait LineJudge {
     /// Where the document stands behind the lines of this judge, where that is known before.
     ghost behind: { Self → Option Stage };
 
-    /// Takes the line that the lexer tells.
+    /// Takes the line that the lexer reports.
     fn line(&mut self, line: &LineLexer) -> Result<(), LineStop>
         requires { takes self.old ≡ true }
         ensures judges { Judges (stage self.old) line.now (stage self.new) result }

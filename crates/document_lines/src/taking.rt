@@ -90,7 +90,7 @@ fn reason_of(
     requires { AreBoxesTaken instance.now taken.now places.now }
     ensures { IsReasonOf (taken_reason instance.now value taken.now places.now) result }
 {
-    // For the proof alone: tells the limits of the instance.
+    // For the proof alone: states the limits of the instance.
     let _most_boxes = instance.len();
     if !taken.is_empty() {
         let Ok(set) = instance.subset(alloc, taken) else {

@@ -32,7 +32,7 @@ pub trait TreeChecker {
             result };
 }
 
-// Takes a line where a token is wanted, and tells whether the tree is whole behind it.
+// Takes a line where a token is wanted, and returns whether the tree is whole behind it.
 fn take_token<C: TreeChecker>(
     alloc: Global,
     checker: &mut C,

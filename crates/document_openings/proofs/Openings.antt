@@ -47,7 +47,7 @@ use Rattle.document_openings.proofs.Telling.{kinds_stay}
 
 -- ---- lines
 
--- a line is blank as it is told
+-- a cut line is blank exactly where the line is
 blank_cut : (line : Line) → is_blank (cut_line line) ≡ is_blank line
 blank_cut line = go line.words
   where
@@ -185,11 +185,11 @@ other_goes s stage b f rest =
 
 module _ (old now : Option (List ℕ)) (before after : FaultCount) (limit : ℕ) (s : Lexer) (bytes piece : List ℕ)
     (h : IsUnopened old now before after limit s bytes piece) where
-  -- so far the bytes don't tell the kind
+  -- so far the bytes don't show the kind
   pub untold : tells_kind bytes ≡ false
   untold = ap is_one_filled (ap all_but_last h.parts ∙ but_last h.ended h.part) ∙ h.blank
 
-  -- what is told of the line that a line feed ends
+  -- the line that a line feed ends is held as its cut
   told_line : (b : ℕ) → is_line_feed b ≡ true → ended_line (feed b s).held ≡ cut_line (line_of h.part)
   told_line b f =
       ap (λ (x : Lexer). ended_line x.held) (at_feed b s f) ∙ ap (λ x. ended_line (end_word x)) h.held

@@ -128,7 +128,7 @@ lines_go_on limit bytes more lines =
     (sym (kinds_stay (take limit bytes) (drop limit bytes) lines.told)
     ∙ ap document_kind (take-append-drop limit bytes) ∙ lines.kind))
 
--- more bytes than the limit tell how the document is read
+-- bytes up to the limit show how the document is read
 pub lines_come_back : (limit : ℕ) (bytes more : List ℕ) → limit ≤ length bytes → IsReadByLines limit (bytes ++ more)
     → IsReadByLines limit bytes
 lines_come_back limit bytes more full lines =

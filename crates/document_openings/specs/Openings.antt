@@ -1,4 +1,4 @@
--- The opening of a document: its bytes up to the line feed that ends its first line that isn't blank. It tells the
+-- The opening of a document: its bytes up to the line feed that ends its first line that isn't blank. It shows the
 -- kind of the document, whatever stands behind it.
 use Rattle.std.specs.Prelude.{ℕ, ◌≡◌, ◌≢◌, ◌⊎◌, Bool, true, false, not, List, [], ◌∷◌, ◌++◌, take}
 use Rattle.std.specs.List.{slice_split, list_any}
@@ -20,7 +20,7 @@ ended_lines text = all_but_last (slice_split is_line_feed text)
 abbrev pub is_one_filled : List (List ℕ) → Bool
 is_one_filled lines = list_any (λ line. not (is_blank (line_of line))) lines
 
--- whether these bytes tell the kind of the documents that begin with them: a line feed ends one of their
+-- whether these bytes show the kind of the documents that begin with them: a line feed ends one of their
 -- lines that isn't blank
 abbrev pub tells_kind : List ℕ → Bool
 tells_kind bytes = is_one_filled (ended_lines bytes)
@@ -30,7 +30,7 @@ tells_kind bytes = is_one_filled (ended_lines bytes)
 abbrev pub KindsStay : Type 0
 KindsStay = (bytes more : List ℕ) → tells_kind bytes ≡ true → document_kind (bytes ++ more) ≡ document_kind bytes
 
--- and those texts tell it too
+-- and those texts show it too
 abbrev pub TellingStays : Type 0
 TellingStays = (bytes more : List ℕ) → tells_kind bytes ≡ true → tells_kind (bytes ++ more) ≡ true
 

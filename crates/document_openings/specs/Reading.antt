@@ -24,7 +24,7 @@ use Rattle.document_openings.specs.declared.opening.Opened.{Opened}
 use Rattle.document_openings.specs.declared.opening.Opened.TheVariants.{Whole, Begun}
 use Rattle.document_openings.specs.declared.opening.Opening.{Opening}
 
--- So many bytes were taken, up to the line feed that ends the heading of a bounded document: they tell its kind,
+-- `count` bytes were taken, up to the line feed that ends the heading of a bounded document: they show its kind,
 -- and its other lines are still to come. The heading names the job.
 pub record IsBegun (limit : ℕ) (old new : Option (List ℕ)) (lexer : Lexer) (count : ℕ) (job : SolvingJob) :
     Type 0 where
@@ -59,7 +59,7 @@ CountsOpening before now (Err NoMemory) = Stays before now
 
 -- ---- the steps
 
--- whether the byte ended a line that isn't blank: a lexer holds what it was told of that line
+-- whether the byte ended a line that isn't blank: a lexer holds what it kept of that line
 abbrev pub ends_filled : ℕ → Lexer → Bool
 ends_filled b s = is_line_feed b && not (is_blank (ended_line s.held))
 

@@ -2,7 +2,7 @@
 ghost use Rattle.document_openings.specs.Openings.{DocumentsAreReadOneWay, KindsStay, TellingStays};
 
 /// The kind of a document depends on its first line that isn't blank alone: bytes in which a line
-/// feed ends that line have the kind of every text that begins with them, and each such text tells
+/// feed ends that line have the kind of every text that begins with them, and each such text shows
 /// its kind.
 pub fn kinds_stay()
     ensures kind { KindsStay }

@@ -33,7 +33,7 @@ use Rattle.document_refutations.specs.Rereading.Reread.{Unheaded, Describing, Pr
 use Rattle.document_refutations.specs.Refutations.{IsRefutationIn}
 use Rattle.document_refutations.proofs.Numbers.{cut_says}
 
--- lines as they are told, their numbers left out
+-- lines as a lexer gives them, their numbers left out
 abbrev reread_raw : Reread → List (List ℕ) → Reread
 reread_raw at [] = at
 reread_raw at (line ∷ lines) = reread_raw (reread_line at (cut_line (line_of line))) lines

@@ -1,4 +1,4 @@
--- The number of the result line, by the lines as they are told.
+-- The number of the result line, by the lines as a lexer gives them.
 use Rattle.std.proofs.Common.{◌≡◌, ◌∙◌, ℕ, zero, suc, ◌+◌, ◌<◌, ◌≤◌, refl, sym, ap, subst, arith, Bool, true, false}
 use Rattle.std.proofs.Common.{cond, codes, List, [], ◌∷◌, drop, length, get_or}
 use Rattle.std.proofs.lemmas.List.{drop_more, drop_all}
@@ -11,7 +11,7 @@ use Rattle.text_terms.proofs.LinesFed.{texts_are_lines}
 use Rattle.document_refutations.specs.Rereading.{says_result}
 use Rattle.document_refutations.specs.Refutations.{one_further, number_if, result_number}
 
--- the number of the first line that says so, as it is told
+-- the number of the first result line, of lines as a lexer gives them
 abbrev pub number_told : List NumberedLine → ℕ
 number_told [] = 0
 number_told (l ∷ ls) = cond (says_result l.line.words) l.number (number_told ls)
@@ -20,7 +20,7 @@ pub cut_says : (words : List (List ℕ)) → says_result (cut_words words) ≡ s
 cut_says [] = refl
 cut_says (w ∷ ws) = same_front 21 w (codes "result") (omega arith)
 
--- so many lines further
+-- the number of the line `k` lines behind line `n`, or zero where `k` is zero
 abbrev behind : ℕ → ℕ → ℕ
 behind n zero = zero
 behind n (suc k) = n + suc k

@@ -1,4 +1,4 @@
--- A line that is told by its first 12 words, each by its first 21 bytes, is the same token.
+-- A line that is cut to its first 12 words, each to its first 21 bytes, is the same token.
 use Rattle.std.proofs.Common.{◌≡◌, ℕ, suc, ◌+◌, ◌*◌, ◌<◌, ◌≤◌, ◌⊎◌, inl, inr, refl, sym, ap, ap₂, ◌∙◌, arith, Bool}
 use Rattle.std.proofs.Common.{true, false, cond, List, [], ◌∷◌, take, map, length, Option, Some, None, codes}
 use Rattle.std.proofs.lemmas.Bool.{ne_eqb}
@@ -13,7 +13,7 @@ use Rattle.document_terms.specs.TokenLines.{most_parameter, TokenLinesAreTold, a
 use Rattle.document_terms.specs.TokenLines.{named_function, functions, tuple_of, of_none, of_one, of_two, of_three}
 use Rattle.document_terms.specs.TokenLines.{set_token, token_of}
 
--- the words behind the first, as they are told
+-- the words behind the first, as they are cut
 abbrev pub cut_rest : List (List ℕ) → List (List ℕ)
 cut_rest words = take 11 (map (take 21) words)
 

@@ -1,4 +1,4 @@
--- Token lines: the token that the words of a line are, in an instance with so many dimensions, and
+-- Token lines: the token that the words of a line are, in an instance with a given number of dimensions, and
 -- the words of a token.
 use Rattle.std.specs.Prelude.{ℕ, ◌≡◌, ◌≤◌, ◌==◌, cond, true, false, List, [], ◌∷◌, length, Option, Some, None, nat_le}
 use Rattle.std.specs.Prelude.{codes}
@@ -156,6 +156,6 @@ HasLine d (GlobalScales fs) = IsWrittenTuple d fs
 abbrev pub TokensAreReadBack : Type 0
 TokensAreReadBack = (d : ℕ) (t : PlainToken) → HasLine d t → token_of d (token_words t) ≡ Some t
 
--- a line that is told by its first 12 words, each by its first 21 bytes, is the same token
+-- a line that is cut to its first 12 words, each to its first 21 bytes, is the same token
 abbrev pub TokenLinesAreTold : Type 0
 TokenLinesAreTold = (d : ℕ) → d ≤ 4 → (line : Line) → line_token d (cut_line line) ≡ line_token d line

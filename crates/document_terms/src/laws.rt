@@ -1,7 +1,7 @@
 //! What the definitions promise, each the contract of a function with an empty body.
 ghost use Rattle.document_terms.specs.TokenLines.{TokenLinesAreTold, TokensAreReadBack};
 
-/// A line that is told by its first 12 words, each by its first 21 bytes, is the same token, or
+/// A line that is cut to its first 12 words, each to its first 21 bytes, is the same token, or
 /// none, as the line itself.
 pub fn token_lines_are_told()
     ensures { TokenLinesAreTold }

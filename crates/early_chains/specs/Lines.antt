@@ -1,4 +1,4 @@
--- Chains that are told box by box, from their last box on.
+-- Chains that are listed box by box, from their last box on.
 use Rattle.std.specs.Prelude.{ℕ, ◌+◌, ◌≡◌, ◌<◌, Bool, true, List, ◌∷◌}
 use Rattle.std.specs.List.{AllByRecursion}
 use Rattle.packing_terms.specs.Packing.{PlainInstance, side, container_side}

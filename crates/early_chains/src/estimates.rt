@@ -1,6 +1,6 @@
 //! Weights of chains as they are thought to be while a closing goes on: what they are, and what is
-//! taken back when the search goes back. They rise in `rising.rt`, and a chain that is too long is
-//! read off and looked at in `telling.rt` before it counts, so nothing is promised of them.
+//! taken back when the search goes back. They rise in `raising.rt`, and a chain that is too long is
+//! read off and looked at in `extraction.rt` before it counts, so nothing is promised of them.
 ghost use Rattle.std.specs.Prelude.{◌<◌};
 ghost use Rattle.packing_terms.specs.Packing.{dims};
 
@@ -9,20 +9,19 @@ use edge_state::Mark;
 use lenient_lists::{at, put};
 use std::alloc::Global;
 
-// So many dimensions have places.
+// The number of dimensions that have places.
 const MOST_DIMS: usize = 4;
 
-// So many boxes have their places in a dimension.
+// The number of boxes that have their places in a dimension.
 const MAX_BOXES: usize = 128;
 
-/// So many places there are, one for each box and dimension. Behind them stand the backward
-/// weights.
+/// The number of places, one for each box and dimension. Behind them stand the backward weights.
 pub(crate) const SLOTS: usize = MOST_DIMS * MAX_BOXES;
 
-// So many weights that rose are taken back at most. Further ones don't rise.
+// The greatest number of weights that rose and are taken back. Further ones don't rise.
 const MOST_RISEN: usize = 2_048;
 
-// So many closings on the way from the root are told apart.
+// The number of closings on the way from the root that are distinguished.
 const MOST_CLOSINGS: usize = 512;
 
 // Closings of so few boxes are short, and nothing is thought of them: with 3 to 8 boxes a set cost
@@ -112,7 +111,7 @@ impl ChainEstimates {
         }
     }
 
-    // Takes back what rose, but for so many.
+    // Takes back what rose, but for the first `left` weights.
     fn take_back(&mut self, left: usize) {
         for _ in left..self.used {
             let last = self.used.wrapping_sub(1);

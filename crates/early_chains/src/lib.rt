@@ -1,4 +1,4 @@
-//! Chains that are too long, come upon while a closing goes on: by weights that are only guessed,
+//! Chains that are too long, found while a closing goes on: by weights that are only guessed,
 //! and looked at box by box before they count.
 #![tactic(auto)]
 

@@ -1,4 +1,4 @@
-//! CHAIN at a chain that is told: each step of it is looked at, so it may come from anywhere.
+//! CHAIN at a given chain: each step of it is looked at, so it may come from anywhere.
 ghost use Rattle.std.specs.Prelude.{◌≡◌, ◌<◌, ◌≤◌, IfSome, length};
 ghost use Rattle.packing_terms.specs.Packing.{dims, box_count};
 ghost use Rattle.packing_terms.specs.Exclusions.{excludes};
@@ -12,8 +12,8 @@ use box_instances::Instance;
 use edge_state::{BitRow, EdgeState, Mask, Rel};
 use orientation_rules::keep_only;
 
-// The box that a chain of these boxes starts in, which are told from its last one on, and the
-// chain's weight; none where they are no chain.
+// The box that a chain of these boxes starts in, and the chain's weight; none where they are no
+// chain. They are listed from the chain's last box on.
 fn check_chain<const K: usize>(
     instance: &Instance,
     state: &EdgeState,
@@ -56,8 +56,8 @@ fn check_chain<const K: usize>(
     Some((first, weight))
 }
 
-/// The first two boxes of a chain, which is told from its last box on, if it is one and longer than
-/// the container.
+/// The first two boxes of a chain, which is listed from its last box on, if it is one and longer
+/// than the container.
 pub(crate) fn find_long_chain<const K: usize>(
     instance: &Instance,
     state: &EdgeState,

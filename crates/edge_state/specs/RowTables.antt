@@ -13,7 +13,7 @@ abbrev pub paired_words : List ℕ → List ℕ → List (List ℕ)
 paired_words [] seconds = []
 paired_words (x ∷ xs) seconds = (x ∷ slice_index seconds 0 ∷ []) ∷ paired_words xs (drop 1 seconds)
 
--- so many times a row, with its second word only where that is wanted
+-- `count` times a row, with its second word only where that is wanted
 abbrev pub filled_table : ℕ → List ℕ → Bool → PlainTable
 filled_table count row wide = record {
   rows = replicate count (slice_index row 0 ∷ (if wide then slice_index row 1 else 0) ∷ []);

@@ -23,7 +23,7 @@ impl<const K: usize> Model for BitRow<K> {
     ghost inverse = { λ ws. record { words = ws } };
 }
 
-// The word in which a number stands. Of one word it is told without looking at the number.
+// The word in which a number stands. Where there is only one word, the number isn't looked at.
 #[inline]
 pub(crate) fn word_of<const K: usize>(number: u32) -> usize
     requires width { IsRowWidth K }

@@ -41,7 +41,7 @@ fn write_box(rows: &mut RowTable, place: usize, row: BitRow<2>)
     ensures made { (k : ℕ) → place * 3 ≤ k → k < place * 3 + 3 → (x : ℕ)
         → row_has (slice_index_or rows.new.rows k []) x ≡ row_has row x }
 {
-    // For the proof alone: tells that the number of rows is a number of the machine.
+    // For the proof alone: states that the number of rows is a number of the machine.
     let _count = rows.len();
     let at = place * 3;
     rows.write(at, row);

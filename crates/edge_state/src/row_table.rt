@@ -40,7 +40,7 @@ fn seconds_of(count: usize, wide: bool) -> usize
 }
 
 impl RowTable {
-    /// So many times the same row, with a second word only where that is wanted.
+    /// `count` times the same row, with a second word only where that is wanted.
     pub fn new(
         alloc: Global,
         count: usize,

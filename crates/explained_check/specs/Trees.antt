@@ -6,7 +6,7 @@ use Rattle.line_proofs.specs.Auditors.{PlainAuditor}
 use Rattle.explained_documents.specs.declared.reason.ExplainedReason.{ExplainedReason}
 use Rattle.explained_documents.specs.Stages.{Explaining, Ending, filled_line}
 
--- no line was refused of a tree over so many dimensions
+-- no line was refused of a tree over `d` dimensions
 pub record IsGoing (r : PlainAuditor) (d : ℕ) : Type 0 where
   pub same : d ≡ dims r.instance
   pub least : 2 ≤ d

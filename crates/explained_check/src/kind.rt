@@ -48,7 +48,7 @@ pub fn bounded_job(line: &LineLexer) -> SolvingJob
     }
 }
 
-// The kind that the lines that are left tell.
+// The kind that the lines that are left state.
 fn kind_left(bytes: &[u8], at: &mut Cursor) -> DocumentKind
     requires { IsAmong bytes.now at.old }
     ensures { result ≡ kind_told (lines_left bytes.now at.old) }

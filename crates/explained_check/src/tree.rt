@@ -49,7 +49,7 @@ fn take_step(
     }
 }
 
-/// Reads the lines of the tree. `None` tells that it is whole.
+/// Reads the lines of the tree. `None` means that it is whole.
 pub(crate) fn read_tree(
     alloc: Global,
     bytes: &[u8],

@@ -1,5 +1,5 @@
--- What is told of a line, cut to 12 words of 21 bytes, is taken as the line itself; so the lines
--- that a text tells give its verdict.
+-- A line that is cut to 12 words of 21 bytes is taken as the line itself; so the lines that a lexer
+-- gives for a text give its verdict.
 use Rattle.std.proofs.Common.{◌≡◌, ℕ, ◌+◌, ◌≤◌, refl, ap, ap₂, ◌∙◌, arith, Bool, true, false, cond, not, List, []}
 use Rattle.std.proofs.Common.{◌∷◌, ◌||◌, length, Result, Ok, Err, codes}
 use Rattle.packing_terms.specs.Packing.{dims}

@@ -71,12 +71,12 @@ explained_status (Err refusal) = 1
 
 -- ---- the laws
 
--- lines as they are told, behind the first n
+-- lines as a lexer gives them, behind the first n
 abbrev pub told_verdict : ExplainedStage → ℕ → List NumberedLine → Result PlainInstance ExplainedRefusal
 told_verdict stage n [] = at_end stage n
 told_verdict stage n (l ∷ ls) = at_line l.number (stage_after stage l.line) >>= λ next. told_verdict next l.number ls
 
--- the lines that the bytes of a text tell, taken one by one, give its verdict
+-- the lines that a lexer gives for the bytes of a text, taken one by one, give its verdict
 abbrev pub DocumentsAreFed : Type 0
 DocumentsAreFed = (text : List ℕ) → told_verdict Heading 0 (lines_fed new_lexer text) ≡ explained_verdict text
 

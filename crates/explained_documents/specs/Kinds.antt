@@ -39,12 +39,12 @@ kind_of_lines (line ∷ lines) =
 abbrev pub document_kind : List ℕ → DocumentKind
 document_kind text = kind_of_lines (text_lines text)
 
--- of lines as they are told
+-- of lines as a lexer gives them
 abbrev pub kind_told : List NumberedLine → DocumentKind
 kind_told [] = Reduced
 kind_told (l ∷ ls) = elim (is_blank l.line) [ true ↦ kind_told ls | false ↦ kind_of_line l.line ]
 
--- the lines that the bytes of a text tell have its kind
+-- the lines that a lexer gives for the bytes of a text have its kind
 abbrev pub KindsAreTold : Type 0
 KindsAreTold = (text : List ℕ) → kind_told (lines_fed new_lexer text) ≡ document_kind text
 

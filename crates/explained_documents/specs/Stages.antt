@@ -52,7 +52,7 @@ are_two key other _ = false
 abbrev pub heading_line : List (List ℕ) → Result ExplainedStage ExplainedReason
 heading_line words = require (are_two (codes "explained") (codes "fit") words) form (Ok (Reading no_parts))
 
--- a fault of the instance text is told by its code
+-- a fault of the instance text is reported by its code
 abbrev pub text_fault : {A : Type 0} → Result A ℕ → Result A ExplainedReason
 text_fault (Ok x) = Ok x
 text_fault (Err code) = Err (Text code)

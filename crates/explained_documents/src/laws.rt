@@ -4,14 +4,14 @@ ghost use Rattle.explained_documents.specs.Form.{DocumentsHaveForm};
 ghost use Rattle.explained_documents.specs.Kinds.{KindsAreTold, ReducedDocumentsAreOfTheirKind, BoundedDocumentsAreOfTheirKind};
 
 /// The bytes of a text, fed from its start to a lexer with each line taken as it ends, give its
-/// verdict and its kind. A line is told by its first 12 words of at most 21 bytes.
+/// verdict and its kind. A line is cut to its first 12 words, each to its first 21 bytes.
 pub fn explained_documents_are_fed()
     ensures verdict { DocumentsAreFed }
     ensures kind { KindsAreTold }
 {}
 
-/// The instance of a document that is verified is within the limits and has no packing, whoever
-/// wrote the document.
+/// The instance of a document that is verified is within the limits and has no packing, no matter
+/// who wrote the document.
 pub fn explained_documents_are_true()
     ensures { DocumentsAreTrue }
 {}

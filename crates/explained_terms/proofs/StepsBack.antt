@@ -1,4 +1,4 @@
--- The words of a step are read back as the step, and a line that is told in part is the same step.
+-- The words of a step are read back as the step, and a line that is cut is the same step.
 use Rattle.std.proofs.Common.{◌≡◌, ℕ, ◌≤◌, refl, ap, ap₂, ◌∙◌, arith, cond, List, [], ◌∷◌, length, take}
 use Rattle.std.proofs.Common.{Some, None, codes}
 use Rattle.std.specs.Fmt.{decimal}
@@ -61,7 +61,7 @@ steps_are_read_back d (Plain (SetRefuted b)) h = absurd h
 steps_are_read_back d (Plain ValueShort) h = absurd h
 steps_are_read_back d (Plain (GlobalScales fs)) h = absurd h
 
--- ---- lines that are told in part
+-- ---- lines that are cut
 
 many_one : (make : ℕ → PlainStep) (xs : List ℕ) → 6 ≤ length xs → of_one make (Some xs) ≡ None
 many_one make [] l = refl

@@ -29,7 +29,7 @@ pub seen_free : (us : List ℕ) (nodes : List (List Exclusion)) → nodes_seen N
 seen_free us [] = refl
 seen_free us (es ∷ nodes) = refl
 
--- the answer tells the refusal
+-- the answer states the refusal
 pub refusal_told : (o : Option RefuseCode) (nodes : List (List Exclusion)) → refusal_in (answered_by o nodes) ≡ o
 refusal_told (Some code) nodes = refl
 refusal_told None [] = refl

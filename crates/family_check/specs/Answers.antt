@@ -4,7 +4,7 @@ use Rattle.check_terms.specs.declared.answers.RefuseCode.{RefuseCode}
 use Rattle.check_terms.specs.declared.answers.FeedVerdict.{FeedVerdict}
 use Rattle.check_terms.specs.declared.answers.FeedVerdict.TheVariants.{More, Done, Refused}
 
--- the refusal that an answer tells
+-- the refusal that an answer states
 abbrev pub refusal_in : FeedVerdict → Option RefuseCode
 refusal_in (Refused code) = Some code
 refusal_in More = None

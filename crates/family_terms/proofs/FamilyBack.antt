@@ -1,5 +1,5 @@
--- The words of a token are read back as the token, and a line that is told by its first 12 words,
--- each by its first 21 bytes, is the same token.
+-- The words of a token are read back as the token, and a line that is cut to its first 12 words,
+-- each to its first 21 bytes, is the same token.
 use Rattle.std.proofs.Common.{◌≡◌, ℕ, ◌≤◌, refl, ap, ap₂, ◌∙◌, arith, Bool, true, false, cond, List, []}
 use Rattle.std.proofs.Common.{◌∷◌, map, length, Some, None, codes, nat_le}
 use Rattle.std.specs.Prelude.{option_map}
@@ -59,7 +59,7 @@ family_tokens_are_read_back d (Plain t) h =
 family_tokens_are_read_back d (Family i vs) h =
     ap family_by (parameters_back (i ∷ vs) (h.0, h.1)) ∙ family_back i vs h.2 h.3
 
--- ---- told
+-- ---- cut lines
 
 -- more than ten numbers are no family's line
 pub many_joining : (xs : List ℕ) → 11 ≤ length xs → family_by (Some xs) ≡ None

@@ -1,6 +1,6 @@
 -- Lines of refutations with families: token lines, and `k I V1 .. Vm`, where I is a dimension and
 -- V1 .. Vm are 1 to 9 boxes that join its family. A line of ten boxes has all of the 12 words that
--- are kept of a line, so it couldn't be told from one of eleven.
+-- are kept of a line, so it couldn't be distinguished from one of eleven.
 use Rattle.std.specs.Prelude.{ℕ, ◌≡◌, ◌≤◌, cond, nat_le, List, [], ◌∷◌, ◌++◌, length, map, Option}
 use Rattle.std.specs.Prelude.{Some, None, option_map, codes}
 use Rattle.std.specs.List.{AllByRecursion}
@@ -53,6 +53,6 @@ abbrev pub FamilyTokensAreReadBack : Type 0
 FamilyTokensAreReadBack = (d : ℕ) (t : FamilyToken) → HasFamilyLine d t
     → family_token_of d (family_token_words t) ≡ Some t
 
--- a line that is told by its first 12 words, each by its first 21 bytes, is the same token
+-- a line that is cut to its first 12 words, each to its first 21 bytes, is the same token
 abbrev pub FamilyLinesAreTold : Type 0
 FamilyLinesAreTold = (d : ℕ) → d ≤ 4 → (line : Line) → family_line_token d (cut_line line) ≡ family_line_token d line

@@ -84,8 +84,8 @@ pub fn families_in_trees_are_refutations()
 {}
 
 /// The words of a token are read back as the token, where its numbers are at most 4,294,967,295 and
-/// a family's line has 1 to 9 boxes. A line that is told by its first 12 words, each by its first
-/// 21 bytes, is the same token, or none, as the line itself.
+/// a family's line has 1 to 9 boxes. A line that is cut to its first 12 words, each to its first 21
+/// bytes, is the same token, or none, as the line itself.
 pub fn family_lines_are_read_back()
     ensures words { FamilyTokensAreReadBack }
     ensures told { FamilyLinesAreTold }

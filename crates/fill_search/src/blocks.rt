@@ -26,8 +26,8 @@ const NO_BLOCK: Block = Block {
 };
 
 impl Block {
-    /// Whether this block and another overlap. The upward dimension comes first, since it tells most
-    /// of them apart.
+    /// Whether this block and another overlap. The upward dimension comes first, since it separates
+    /// most of them.
     #[inline]
     pub(crate) fn meets(&self, other: &Block) -> bool {
         for back in 0..4 {

@@ -40,7 +40,7 @@ pub fn corner_reason(
         (λ reason. corner_line instance.now complete stage.left (plain_part stage.part) width height
         ≡ Err reason) }
 {
-    // For the proof alone: tells the limits of the instance.
+    // For the proof alone: states the limits of the instance.
     let _limits = instance.len();
     let most = instance.written_container(0);
     let highest = instance.written_container(1);
@@ -102,7 +102,7 @@ pub fn point_reason(
         (λ reason. point_line instance.now complete stage.left (plain_part stage.part) width height
         ≡ Err reason) }
 {
-    // For the proof alone: tells the limits of the instance.
+    // For the proof alone: states the limits of the instance.
     let _limits = instance.len();
     let most = instance.written_container(0);
     let highest = instance.written_container(1);

@@ -121,7 +121,7 @@ fn one_step(
 }
 
 /// Whether lines are those of a front of a two-dimensional instance: `complete` says that it has
-/// all points, and so many points are announced.
+/// all points, and `points` points are announced.
 ///
 /// `Refused` names the first line that isn't allowed, counted from 0, and `Short` comes exactly
 /// where all lines are allowed and more are missing. Where the lines are `Good` their points are
@@ -139,7 +139,7 @@ pub fn audit_front(
     ensures right { IfOk result (λ v. v ≡ GoodFront
         → IsTrueFront instance.now complete points (map plain_line lines.now)) }
 {
-    // For the proof alone: tells the limits of the instance.
+    // For the proof alone: states the limits of the instance.
     let _limits = instance.len();
     let mut stage = Stage {
         left: points,

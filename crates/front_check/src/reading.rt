@@ -29,7 +29,7 @@ pub(crate) fn read_tree(
     ensures { IfOk result (λ r. IsReadTree instance.now width height
         (map plain_line lines.now) start r) }
 {
-    // For the proof alone: tells the limits of the instance.
+    // For the proof alone: states the limits of the instance.
     let _limits = instance.len();
     let sized = with_container(alloc, instance, width, height)?;
     let mut refuter = Refuter::new(alloc, &sized)?;
@@ -69,7 +69,7 @@ pub(crate) fn read_places(
     ensures { IfOk result (λ r. IsReadPoint instance.now width height
         (map plain_line lines.now) start r) }
 {
-    // For the proof alone: tells the limits of the instance.
+    // For the proof alone: states the limits of the instance.
     let _limits = instance.len();
     let sized = with_container(alloc, instance, width, height)?;
     let wanted = 2 * instance.len() as usize;

@@ -48,7 +48,7 @@ abbrev pub opened_stage : Stage → OpenPart → FrontStage
 opened_stage s (OpenCorner width height) = growing s.left width height ([] ∷ [])
 opened_stage s (OpenPoint width height) = placing (s.left - 1) width height []
 
--- what a line opens, by what it makes of a document that announces so many points
+-- what a line opens, by `made`: what it makes of a document that announces a given number of points
 abbrev pub IsOpened : PlainInstance → Bool → Stage → (ℕ → Result DocumentStage Reason)
     → Result (Option OpenPart) Reason → Type 0
 IsOpened instance complete s made (Ok (Some part)) =
@@ -58,7 +58,7 @@ IsOpened instance complete s made (Ok None) =
     (points : ℕ) → made points ≡ Ok (Ended instance (claim_of complete points))
 IsOpened instance complete s made (Err reason) = (points : ℕ) → made points ≡ Err reason
 
--- what a line makes of it, as it is told and by its words
+-- what a line makes of it: by the line of a lexer, and by its words
 abbrev pub taken_by : PlainInstance → Bool → Stage → Line → ℕ → Result DocumentStage Reason
 taken_by instance complete s line points = front_filled_line (at_front instance complete points (plain_stage s)) line
 

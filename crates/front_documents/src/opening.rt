@@ -32,7 +32,7 @@ fn clamped(number: u128) -> u32
     }
 }
 
-// The reason of a corner, of a point or of a token, as a document tells it.
+// The reason of a corner, of a point or of a token, as a document states it.
 fn told_code(reason: FrontReason) -> Reason
     ensures { result ≡ told_code reason }
 {
@@ -55,7 +55,7 @@ fn open_corner(
     ensures { IsOpened instance.now complete stage
         (opened_by instance.now complete stage (CornerAt width height)) result }
 {
-    // For the proof alone: tells the limits of the instance.
+    // For the proof alone: states the limits of the instance.
     let _limits = instance.len();
     let (width, height) = (clamped(width), clamped(height));
     match corner_reason(instance, complete, stage, width, height) {
@@ -77,7 +77,7 @@ fn open_point(
     ensures { IsOpened instance.now complete stage
         (opened_by instance.now complete stage (PointAt width height)) result }
 {
-    // For the proof alone: tells the limits of the instance.
+    // For the proof alone: states the limits of the instance.
     let _limits = instance.len();
     let (width, height) = (clamped(width), clamped(height));
     match point_reason(instance, stage, width, height) {

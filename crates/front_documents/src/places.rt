@@ -34,7 +34,7 @@ fn places_reason(instance: &Instance, places: &[u32]) -> Option<Reason>
     }
 }
 
-/// Reads the places of a point. `None` tells that they are a packing.
+/// Reads the places of a point. `None` means that they are a packing.
 pub(crate) fn read_places(
     alloc: Global,
     bytes: &[u8],

@@ -14,7 +14,7 @@ use refutation_check::Refuter;
 use sized_instances::with_container;
 use std::alloc::Global;
 
-/// Reads the tree of a corner. `None` tells that it is whole.
+/// Reads the tree of a corner. `None` means that it is whole.
 pub(crate) fn read_tree(
     alloc: Global,
     bytes: &[u8],
@@ -32,7 +32,7 @@ pub(crate) fn read_tree(
     ensures read { IsPartRead bytes.now at.old at.new instance.now (tree_stage width height)
         (whole_stage width height) result }
 {
-    // For the proof alone: tells the limits of the instance.
+    // For the proof alone: states the limits of the instance.
     let _limits = instance.len();
     let Ok(sized) = with_container(alloc, instance, width, height) else {
         return Some(FrontAudit::NoMemory);

@@ -12,7 +12,7 @@ abbrev pub verdict_by : Bool → Result FrontStage (ℕ × FrontReason) → Fron
 verdict_by complete (Ok s) = cond (is_whole_front complete s) Good Short
 verdict_by complete (Err refusal) = Refused refusal.0 refusal.1
 
--- the verdict on lines where so many points are announced
+-- the verdict on lines where `points` points are announced
 abbrev pub front_verdict : PlainInstance → Bool → ℕ → List PlainLine → FrontVerdict
 front_verdict instance complete points lines =
     verdict_by complete (front_lines_after instance complete 0 (announced points) lines)

@@ -20,7 +20,7 @@ fn place(alloc: Global, x: u32, y: u32) -> Result<FrontLine, Fail> {
 }
 
 // The lines of the front of the pair, with this width of the second corner and this place of the
-// last box, and without so many lines at their end.
+// last box, and without the last `missing` lines.
 fn lines(alloc: Global, width: u32, last: u32, missing: usize) -> Result<Vec<FrontLine>, Fail> {
     let mut lines = Vec::new(alloc);
     lines.push(corner(1, 4))?;

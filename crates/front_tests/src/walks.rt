@@ -38,7 +38,7 @@ fn are_points(points: &[Point]) -> bool {
         && is_point(&points[1], 4, 1, &[0, 0, 2, 0])
 }
 
-// Whether so many workers come to both points, with the corners before them.
+// Whether `workers` workers come to both points, with the corners before them.
 fn is_whole<R: Threads + Wait + Sync>(
     rt: &R,
     alloc: Global,
@@ -60,7 +60,7 @@ fn a_pair_has_two_least_sizes(rt: HostRuntime) -> Result<(), Fail> {
     Ok(())
 }
 
-// Whether so many workers come to nothing. The whole container takes two branchings.
+// Whether `workers` workers come to nothing. The whole container takes two branchings.
 fn is_spent<R: Threads + Wait + Sync>(
     rt: &R,
     alloc: Global,

@@ -85,7 +85,7 @@ abbrev pub placed_in_range : FrontPart → PlainLine → Bool
 placed_in_range (Placing width height places) (PlaceAt xs) = are_coordinates xs
 placed_in_range part line = true
 
--- a reason as a document tells it
+-- a reason as a document states it
 abbrev pub told_reason : FrontReason → Reason
 told_reason (Tree code) = Token code
 told_reason (Places (Outside v i)) = OutsideAt (suc v) (suc i)

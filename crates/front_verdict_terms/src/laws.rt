@@ -11,7 +11,7 @@ pub fn verified_fronts_are_true()
 {}
 
 /// The bytes of a text, fed from its start to a lexer with each line taken as it ends, give its
-/// verdict. A line is told by its first 12 words of at most 21 bytes.
+/// verdict. A line is cut to its first 12 words, each to its first 21 bytes.
 pub fn fronts_are_fed()
     ensures { FrontsAreFed }
 {}

@@ -4,7 +4,7 @@ use box_instances::{BoxItem, Instance, InstanceFault, NoMemory, Sides, make};
 use std::alloc::{AllocError, Global};
 use std::test::Fail;
 
-// So many boxes with these sides and this value.
+// `count` boxes with these sides and this value.
 fn boxes_of(
     alloc: Global,
     sides: &[u32],
@@ -38,7 +38,7 @@ fn made(
     }
 }
 
-// The fault of so many boxes with these sides and this value.
+// The fault of `count` boxes with these sides and this value.
 fn fault_of(
     alloc: Global,
     container: &[u32],

@@ -57,7 +57,7 @@ fn the_first_faulty_line_is_told_with_its_code(rt: HostRuntime) -> Result<(), Fa
     Ok(())
 }
 
-// What a text of so many boxes is told as.
+// The outcome of reading a text of `count` boxes.
 fn boxes_told(alloc: Global, count: u32) -> Result<(u64, u8), AllocError> {
     let mut text = Vec::from_slice(alloc, b"format 1\ncontainer 5 5\n")?;
     for _ in 0..count {
@@ -81,14 +81,15 @@ fn a_text_of_spaces_is_one_blank_line(rt: HostRuntime) -> Result<(), Fail> {
     Ok(())
 }
 
-// What a text of these lines and those behind them is told as.
+// The outcome of reading a text of these lines and those behind them.
 fn told_behind(alloc: Global, head: &[u8], lines: &[u8]) -> Result<(u64, u8), AllocError> {
     let mut text = Vec::from_slice(alloc, head)?;
     text.extend_from_slice(lines)?;
     Ok(told(alloc, &text))
 }
 
-// Lines behind a line `format 1` and a line `container 5 5`, each with what the text is told as.
+// Lines behind a line `format 1` and a line `container 5 5`, each with the outcome of reading the
+// text.
 const THIRD_LINES: [(&[u8], u64, u8); 20] = [
     (b"box 0 1\n", 3, 4),
     (b"box 1 x\n", 3, 3),
@@ -182,7 +183,8 @@ fn of_lines(alloc: Global, order: &[u8]) -> Result<Vec<u8>, AllocError> {
     Ok(text)
 }
 
-// The lines of one text with some left out, doubled or swapped, each with what the text is told as.
+// The lines of one text with some left out, doubled or swapped, each with the outcome of reading
+// the text.
 const ORDERS: [(&[u8], u64, u8); 30] = [
     (b"123456", 3, 0),
     (b"23456", 3, 0),

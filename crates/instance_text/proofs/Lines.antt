@@ -32,7 +32,7 @@ length_fits format d n (inr (inr h)) =
     or_right (n == d) _ (or_right (n == d + 2) _
     (and_from (format == 2) (n == d + 4) (eq-eqb format 2 h.0) (eq-eqb n (d + 4) (omega (arith, e)))))
 
--- a count that is told is the number of words, where that is at most 12
+-- the count of a cut line is the number of words, where that is at most 12
 pub same_ending : (format d count n : ℕ) → HasEnding format (d + 1) count → d ≤ 4 → 1 ≤ n → n ≡ min 12 count
     → HasEnding format (d + 1) n
 same_ending format d count n (inl h) few some e = inl (omega (arith, h, few, e))

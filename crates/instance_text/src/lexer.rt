@@ -18,7 +18,7 @@ pub enum LexStep {
 /// The lines of a text, fed byte by byte.
 ///
 /// It holds of a line at most 12 words of at most 21 bytes, and takes no memory. The laws of
-/// `text_terms` say that feeding a whole text tells its lines. Contracts see it as the step's
+/// `text_terms` say that feeding a whole text gives its lines. Contracts see it as the step's
 /// record of plain lists and numbers.
 #[derive(Drop)]
 pub struct LineLexer {

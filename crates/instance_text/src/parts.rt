@@ -48,7 +48,7 @@ fn number_within(word: &[u8], low: u32, high: u32) -> Result<u32, u8>
     }
 }
 
-// So many equal numbers.
+// `count` equal numbers.
 fn repeated(alloc: Global, number: u32, count: u32) -> Sides
     requires { count ≤ 4 }
     ensures { result.items ≡ replicate count number }
@@ -92,7 +92,7 @@ fn numbers_from(alloc: Global, line: &LineLexer, low: u32, limits: &[u32]) -> Re
     ensures { IsReadAs (λ ns. ns.items) result
         (numbers_of low limits.now (drop 1 line.now.held.words)) }
 {
-    // For the proof alone: tells the limits of the line's words.
+    // For the proof alone: states the limits of the line's words.
     let _count = line.word_count();
     let mut numbers = Sides::new(alloc);
     for k in 0..limits.len() {
@@ -120,8 +120,8 @@ fn value_from(line: &LineLexer, from: u32) -> Result<u64, u8>
     Ok(value as u64)
 }
 
-// How many boxes the words from this one on stand for, where there is room for so many more, and 1
-// where there are none.
+// How many boxes the words from index `from` on stand for, where there is room for `room` boxes
+// more, and 1 where there are no such words.
 fn times_from(line: &LineLexer, room: u32, from: u32) -> Result<u32, u8>
     requires within { from ≤ 8 }
     requires words { (length line.now.held.words ≤ from) ⊎ (from + 2 ≤ length line.now.held.words) }
@@ -252,7 +252,7 @@ fn kerf_added(
     }
 }
 
-// Whether a `box` line may have so many words, in so many dimensions.
+// Whether a `box` line may have `count` words, in `dims` dimensions.
 fn may_have_words(format: u32, dims: u32, count: u32) -> bool
     requires few { dims ≤ 4 }
     requires some { 0 < count }

@@ -30,7 +30,7 @@ pub fn put(list: &mut [u32], index: usize, entry: u32)
     }
 }
 
-/// So many zeros.
+/// `count` zeros.
 pub fn zeros(alloc: Global, count: usize) -> Result<Vec<u32>, NoMemory>
     ensures length { IfOk result (λ list. length list.items ≡ count) }
     ensures zeros { IfOk result (λ list. (k : ℕ) → k < count → slice_index list.items k ≡ 0) }

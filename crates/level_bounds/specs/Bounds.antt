@@ -75,11 +75,11 @@ IsAdjacentLevel b level =
     ((suc b.refuted < b.lowest) × (level ≡ suc b.refuted))
     ⊎ (AreNeighbours b.refuted b.lowest × ((suc b.highest < b.placed) × (level ≡ pred b.placed)))
 
--- the level is asked behind so many in vain
+-- the level is asked after `misses` undecided levels in a row
 abbrev pub IsLevelAfterMisses : ℕ → PlainBounds → ℕ → Type 0
 IsLevelAfterMisses misses b level = ((misses < 3) × IsAskedNext b level) ⊎ ((3 ≤ misses) × IsAdjacentLevel b level)
 
--- how many were asked in vain behind one more: none where that narrowed the gap, and else one more, as
+-- how many levels in a row were undecided, after one more: none where that narrowed the gap, and else one more, as
 -- far as numbers of 32 bits reach
 abbrev pub updated_misses : ℕ → Bool → ℕ
 updated_misses misses true = 0

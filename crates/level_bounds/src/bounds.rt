@@ -6,7 +6,7 @@ ghost use Rattle.level_bounds.specs.Bounds.{plain_bounds, first_bounds, narrowed
 use level_search::Level;
 use proof_tree::CompactTokens;
 
-// Behind so many levels in vain, one after another, those right beside the ends come.
+// After this number of undecided levels in a row, the levels right beside the ends are asked.
 const MAX_MISSES: u32 = 3;
 
 /// A level that the tokens refute, and a greater one that the numbers show.
@@ -92,13 +92,13 @@ impl Bounds {
         None
     }
 
-    /// The level that is asked behind so many in vain, one after another: that of `next_level`, and
-    /// behind three and more that of `adjacent_level`.
+    /// The level that is asked after `misses` undecided levels in a row: that of `next_level`, and
+    /// after three and more that of `adjacent_level`.
     ///
-    /// A level in vain costs the whole budget. So where nothing can be decided it comes soon to the
-    /// two levels beside the ends, and a wide gap costs no more than a narrow one; halved from both
-    /// ends it cost twice as many levels as it has bits. Where the level beside an end is decided,
-    /// more is, and it goes on halfway.
+    /// An undecided level costs the whole budget. So where nothing can be decided it comes soon to
+    /// the two levels beside the ends, and a wide gap costs no more than a narrow one; halved from
+    /// both ends it cost twice as many levels as it has bits. Where the level beside an end is
+    /// decided, more is, and it goes on halfway.
     pub fn next_level_after_misses(&self, misses: u32) -> Option<u64>
         ensures asked { MatchOption result (HasNoLevelLeft (plain_bounds self.now))
             (IsAsked (plain_bounds self.now)) }
@@ -153,8 +153,7 @@ impl Bounds {
     }
 }
 
-/// How many levels were asked in vain, one after another, behind one more: none where that one
-/// narrowed the gap.
+/// How many levels in a row were undecided, after one more: none where that one narrowed the gap.
 pub fn updated_misses(misses: u32, is_narrower: bool) -> u32
     ensures { result ≡ updated_misses misses is_narrower }
 {

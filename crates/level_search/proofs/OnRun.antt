@@ -1,4 +1,4 @@
--- Whoever follows a run of levels stays on it.
+-- A search that follows a run of levels stays on it.
 use Rattle.std.proofs.Common.{◌≡◌, ℕ, ◌<◌, ◌≤◌, inl, inr, sym, ap, subst, ◌∙◌, arith, true, if◌then◌else◌}
 use Rattle.tree_terms.specs.Levels.{PlainLevel, PlacedBy, RefutedBy, SpentAt, PlainReached, distance, halfway, moved}
 use Rattle.tree_terms.specs.Levels.{is_run_over, bisect_levels, IsLevelBetween}

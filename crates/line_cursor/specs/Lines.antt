@@ -1,4 +1,4 @@
--- The lines that are left of bytes in memory, as a lexer tells them.
+-- The lines that are left of bytes in memory, as a lexer gives them.
 use Rattle.std.specs.Prelude.{ℕ, ◌≡◌, ◌+◌, ◌≤◌, cond, Bool, true, false, List, [], ◌∷◌, length, drop}
 use Rattle.text_terms.specs.Feeding.{Lexer, NumberedLine, told_now, lines_fed}
 use Rattle.verdict_terms.specs.Stages.{is_blank}
@@ -13,11 +13,11 @@ pub record IsAmong (bytes : List ℕ) (at : Cursor) : Type 0 where
   pub given : at.given ≤ length bytes
   pub counted : line_count at.line ≤ at.given
 
--- the lines that are still to be told
+-- the lines that are still to come
 abbrev pub lines_left : List ℕ → Cursor → List NumberedLine
 lines_left bytes at = lines_fed at.line (drop at.given bytes)
 
--- the next line is told, or none is left
+-- the next line is read, or none is left
 abbrev pub IsNextLine : List ℕ → Cursor → Cursor → Bool → Type 0
 IsNextLine bytes old new true = lines_left bytes old ≡ told_now new.line ∷ lines_left bytes new
 IsNextLine bytes old new false = (lines_left bytes old ≡ []) × (new.line.number ≡ old.line.number)
@@ -31,7 +31,7 @@ past_blank n (l ∷ ls) = elim (is_blank l.line) [ true ↦ past_blank l.number 
 abbrev pub filled_left : List ℕ → Cursor → ℕ × List NumberedLine
 filled_left bytes at = past_blank at.line.number (lines_left bytes at)
 
--- the next line that isn't blank is told, or only blank ones are left
+-- the next line that isn't blank is read, or only blank ones are left
 abbrev pub IsNextFilled : List ℕ → Cursor → Cursor → Bool → Type 0
 IsNextFilled bytes old new true =
     (n : ℕ) × (filled_left bytes old ≡ (n, told_now new.line ∷ lines_left bytes new))

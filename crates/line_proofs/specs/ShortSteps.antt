@@ -33,7 +33,7 @@ shown_step wides (Wide k) = slice_index_or wides k (PlainOn 0)
 abbrev pub shown_steps : List PlainStep → List ShortStep → List PlainStep
 shown_steps wides shorts = map (shown_step wides) shorts
 
--- a wide one is among so many
+-- the index of a wide step is less than `n`
 abbrev pub IsWithin : ℕ → ShortStep → Type 0
 IsWithin n (Wide k) = k < n
 IsWithin n _ = Unit {0}

@@ -53,7 +53,7 @@ impl<'a> Model for Auditor<'a> {
         (vec_capacity r.waiting) };
 }
 
-// Room for so many boxes of a chain.
+// Room for `boxes` boxes of a chain.
 fn box_room(alloc: Global, boxes: u32) -> Result<Vec<u32>, NoMemory>
     ensures { IfOk result (λ list. boxes ≤ vec_capacity list) }
 {
@@ -159,8 +159,8 @@ impl<'a> Auditor<'a> {
         }
     }
 
-    /// Whether a tree was accepted whole, and no line refused behind it. At most so many nodes are
-    /// open as there are relations, and one.
+    /// Whether a tree was accepted whole, and no line refused behind it. The number of open nodes
+    /// is at most one more than the number of relations.
     pub fn whole(&self) -> bool
         ensures value { result ≡ is_whole self.now.audited }
         ensures limits { length self.now.audited.nodes ≤ most_open_nodes self.now.instance }

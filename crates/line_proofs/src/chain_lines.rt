@@ -101,7 +101,7 @@ pub(crate) fn end_chain(
     requires begun { chain.old.begun ≡ Some begun }
     ensures { IsEnded instance.now state.old state.new begun chain.old chain.new result }
 {
-    // For the proof alone: tells the limits of the instance.
+    // For the proof alone: states the limits of the instance.
     let _count = instance.len();
     if !changes(
         instance,

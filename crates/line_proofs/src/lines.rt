@@ -70,7 +70,7 @@ pub(crate) fn part(instance: &Instance, state: &mut EdgeState, dim: u32, u: u32,
     ensures state { state.new ≡ record state.old { trail = state.new.trail } }
     ensures grows { Grows state.old.trail state.new.trail }
 {
-    // For the proof alone: tells the limits of the instance.
+    // For the proof alone: states the limits of the instance.
     let _dims = instance.dims();
     let mark = state.mark();
     let first = exclusion_at(dim, u, v, Rel::Before);

@@ -5,7 +5,7 @@ use proof_tree::Token;
 /// order; numbers are those of the written text, so boxes and dimensions count from 1.
 ///
 /// `Pair` to `Order`: a step, an instance of the rule of that name with its boxes in the order of
-/// the rule's text. `Chain`: a step by so many boxes of a chain and so many of another, each told
+/// the rule's text. `Chain`: a step by `first` boxes of a chain and `second` of another, each named
 /// by an `On` behind it. `Clash`: a leaf, all three relations are excluded there. `Plain`: a token
 /// of a refutation.
 #[derive(Drop)]

@@ -1,4 +1,4 @@
--- Numbers that rise, and are handed on to the boxes whose chains go on to those that rose.
+-- Numbers that rise, and are passed on to the boxes whose chains go on to those that rose.
 use Rattle.std.proofs.Common.{◌≡◌, ◌≢◌, ℕ, ◌+◌, ◌*◌, ◌<◌, ◌≤◌, ◌⊎◌, inl, inr, refl, sym, ap, subst, ◌∙◌, arith, Bool}
 use Rattle.std.proofs.Common.{true, false, not, ◌&&◌, ◌||◌, eqb, List, slice_index}
 use Rattle.std.proofs.lemmas.Bool.{true≢false, cases_Bool, cases_eq, or_parts, or_cases, and_parts, eqb-true, eq-eqb}
@@ -78,7 +78,7 @@ grows_next b c u stay grows x = go (cases_eq x u)
 
 module _ (R : ℕ → ℕ → Type 0) (w : ℕ → ℕ) (b c : List ℕ) (v : ℕ) (before left after : ℕ → Bool)
     (less : (x : ℕ) → left x ≡ before x && not (eqb x v)) where
-  -- what v hands on was handed on
+  -- what v passes on was passed on
   pub handed_next : (n : ℕ) → ((x : ℕ) → after x ≡ false → (left x ≡ false) × (slice_index c x ≡ slice_index b x))
       → ((x : ℕ) → slice_index b x ≤ slice_index c x)
       → ((u x : ℕ) → u < n → x < n → before x ≡ false → HasNoHeavierRun R w b u x)

@@ -30,7 +30,7 @@ pub record AreKeptWeights (limit : ℕ) (sides head tail : List ℕ) (rows fits 
   pub fit : (u v : ℕ) → u < length head → v < length head → GoesOn fits u v
       → slice_index head u + slice_index tail v ≤ limit
 
--- the same, with memory in each list for so many boxes
+-- the same, with memory in each list for `most` boxes
 pub record AreRoomy (most limit : ℕ) (sides head tail : List ℕ) (rows fits : List (List ℕ))
     (side_room head_room tail_room row_room fit_room : ℕ) : Type 0 where
   pub kept : AreKeptWeights limit sides head tail rows fits
@@ -76,7 +76,7 @@ pub record AreHeaviestWeights (instance : PlainInstance) (s : PlainEdges) (i : �
   pub heads : (v : ℕ) → v < box_count instance → IsHeaviest instance s i Backwards v (slice_index k.head v)
   pub tails : (v : ℕ) → v < box_count instance → IsHeaviest instance s i Forwards v (slice_index k.tail v)
 
--- so many levels are in use, there is room for so many boxes, and in each level memory for them
+-- `used` levels are in use, there are `boxes` boxes, and each level has memory for `most` boxes, at least as many
 pub record AreKeptLevels (boxes most used : ℕ) (worked : PlainWeights) (levels : List PlainWeights) : Type 0 where
   pub within : used ≤ length levels
   pub few : boxes ≤ most

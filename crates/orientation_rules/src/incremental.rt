@@ -1,5 +1,5 @@
 //! Weights of chains that hold in one state are made those of a later one: what is raised is
-//! handed on to the boxes whose chains go on to it.
+//! passed on to the boxes whose chains go on to it.
 ghost use Rattle.std.specs.Prelude.{◌≡◌, ◌==◌, ◌<◌, ◌≤◌, ◌*◌, ◌&&◌, ◌||◌, ◌⊎◌, ℕ, true, false, length, slice_index};
 ghost use Rattle.packing_terms.specs.Packing.{box_count};
 ghost use Rattle.packing_terms.specs.Exclusions.{excludes};
@@ -200,7 +200,7 @@ fn new_row<const K: usize>(state: &EdgeState, dim: u32, v: u32, kept: &[BitRow<K
 }
 
 /// Makes weights of chains that start in each box the weights of the heaviest, where they are that
-/// so far as these rows tell, and only the boxes of another row go on to more. Answers a row with
+/// as far as these rows show, and only the boxes of another row go on to more. Answers a row with
 /// all boxes that rose.
 #[inline(always)]
 pub(crate) fn raise_tails<const K: usize>(

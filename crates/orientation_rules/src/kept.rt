@@ -82,7 +82,7 @@ fn with_if_any<const K: usize>(row: BitRow<K>, number: u32, other: BitRow<K>) ->
 }
 
 // Adds a box to `ahead` if its row isn't what it was. Answers whether it has all that it had. Mostly
-// nothing changed, which one comparison tells.
+// nothing changed, which one comparison shows.
 #[inline]
 fn add_changed<const K: usize>(
     ahead: &mut BitRow<K>,
@@ -123,7 +123,7 @@ fn still_holds<const K: usize>(
     ensures { result ≡ true
         → StillHolds instance.now state.now dim sides.now rows.now ahead.new }
 {
-    // For the proof alone: tells the limits of the state.
+    // For the proof alone: states the limits of the state.
     let _boxes = state.boxes();
     *ahead = BitRow::empty();
     for v in 0..instance.len() {
@@ -180,7 +180,7 @@ fn boxes_ahead<const K: usize>(instance: &Instance, state: &EdgeState, dim: u32)
         → row_has result u ≡ false → (u ≡ x → ⊥)
         → Leads (excludes state.now.trail) dim Forwards u x → ⊥ }
 {
-    // For the proof alone: tells the limits of the state.
+    // For the proof alone: states the limits of the state.
     let _boxes = state.boxes();
     let mut ahead = BitRow::empty();
     for v in 0..instance.len() {
@@ -282,7 +282,7 @@ impl<const K: usize> CachedChainWeights<K> {
         ensures most { self.new.most ≡ self.old.most }
         ensures weights { AreHeaviestWeights instance.now state.now dim self.new }
     {
-        // For the proof alone: tells the limits of the state.
+        // For the proof alone: states the limits of the state.
         let _boxes = state.boxes();
         self.limit = u64::from(instance.container_side(dim));
         let sides = self.sides.as_mut_slice();
@@ -342,7 +342,7 @@ impl<const K: usize> CachedChainWeights<K> {
     }
 
     /// Makes them the weights of a state in which they still hold, where only boxes of `ahead` go on
-    /// to more than their rows tell. Answers whether a weight rose.
+    /// to more than their rows show. Answers whether a weight rose.
     pub fn raise(
         &mut self,
         instance: &Instance,
@@ -357,7 +357,7 @@ impl<const K: usize> CachedChainWeights<K> {
         ensures most { self.new.most ≡ self.old.most }
         ensures weights { AreHeaviestWeights instance.now state.now dim self.new }
     {
-        // For the proof alone: tells the limits of the state.
+        // For the proof alone: states the limits of the state.
         let _boxes = state.boxes();
         let rows = self.rows.as_slice();
         let head = self.head.as_mut_slice();

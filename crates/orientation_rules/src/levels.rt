@@ -177,14 +177,14 @@ impl<const K: usize> ChainWeightCache<K> {
         ensures tails { AreHeaviestTails instance.now
             (excludes state.now.trail) dim self.new.weights.tail }
     {
-        // For the proof alone: tells the limits of the state.
+        // For the proof alone: states the limits of the state.
         let _boxes = state.boxes();
         self.weigh(instance, state, dim);
         self.fresh = true;
     }
 
-    // Gives up every other level, the older of each two, so that there is room on top. Levels that
-    // stay for long so stand farther apart the older they are.
+    // Evicts every other level, the older of each two, so that there is room on top. So levels that
+    // stay for long stand farther apart the older they are.
     fn evict_every_other(&mut self)
         ensures { self.new ≡ self.old }
     {

@@ -35,7 +35,7 @@ pub(crate) fn raise_by(
     ensures others { OthersStay v into.old into.new }
     ensures grows { slice_index into.old v ≤ slice_index into.new v }
 {
-    // For the proof alone: tells the limits of the instance.
+    // For the proof alone: states the limits of the instance.
     let _count = instance.len();
     let weight = own + into[x as usize];
     if weight <= into[v as usize] {

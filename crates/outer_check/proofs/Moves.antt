@@ -63,7 +63,7 @@ pub stands : {Node : Type 0} (below : Node → ℕ → List Node) (root : Node) 
 stands below root inner [] = refl
 stands below root inner (f ∷ frames) = refl
 
--- the bins used are told of the splits that are left
+-- the splits that are left state how many bins are used at their nodes
 next_used : (k : ℕ) (frames : List Frame) → HaveUsed k frames → HaveUsed k (next_frames frames)
 next_used k [] h = h
 next_used k (f ∷ frames) h = go (nat_lt (suc f.child) f.children) (next_used k frames h.1)

@@ -27,7 +27,7 @@ any_reverse p (x ∷ xs) =
     swapped false true = refl
     swapped false false = refl
 
--- tests of the list that the path is seen as, told by the list itself
+-- tests of `frames`, the list that the path is seen as, made on `slice`, the stored list
 pub any_decided : (frames items slice : List Frame) (box_no : ℕ) → slice ≡ items → reverse items ≡ frames
     → list_any (λ (f : Frame). f.box_no == box_no) slice ≡ is_decided frames box_no
 any_decided frames items slice box_no same seen =

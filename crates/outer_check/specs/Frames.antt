@@ -12,7 +12,7 @@ pub record PlainPath : Type 0 where
   pub boxes : ℕ
   pub frames : List Frame
 
--- a split by the box of the text, on to the first of so many children
+-- a split by the box of the text, on to the first of `children` children
 abbrev pub first_split : ℕ → ℕ → ℕ → Frame
 first_split box_no children used = record { box_no = box_no; child = 0; children = children; used = used }
 

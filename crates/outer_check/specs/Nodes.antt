@@ -21,7 +21,7 @@ HaveChildren below root [] = Unit {0}
 HaveChildren below root (f ∷ frames) =
     (f.children ≡ length (below (node_below below root frames) f.box_no)) × HaveChildren below root frames
 
--- for k bins each split tells how many are used at its node
+-- for `k` bins each split states how many are used at its node
 abbrev pub HaveUsed : ℕ → List Frame → Type 0
 HaveUsed k [] = Unit {0}
 HaveUsed k (f ∷ frames) = (f.used ≡ length (node_below (bins_with k) [] frames)) × HaveUsed k frames

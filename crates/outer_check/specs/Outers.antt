@@ -26,7 +26,7 @@ use Rattle.outer_check.specs.declared.point.Point.TheVariants.{AtNode, InSet, At
 use Rattle.outer_check.specs.Frames.{PlainPath}
 use Rattle.outer_check.specs.Nodes.{node_below, path_below, HaveChildren, HaveUsed}
 
--- the tree for so many bins, or for a value, that is fed
+-- the tree that is fed: for `bins` bins, or for a value
 pub data OuterTree : Type 0 where
   ForBins : (bins : ℕ) (view : OuterView UsedBins) → OuterTree
   ForValue : (value : ℕ) (view : OuterView BoxChoice) → OuterTree

@@ -62,7 +62,7 @@ pub(crate) fn exchange_refusal(
     ensures { result ≡ exchange_refusal instance.now
         (node_below choices_with no_choice path.now.frames) left_no taken_no }
 {
-    // For the proof alone: tells the limits of the path.
+    // For the proof alone: states the limits of the path.
     let _boxes = path.boxes();
     if !(names_box(instance, left_no) & names_box(instance, taken_no)) {
         return Some(RefuseCode::Range);

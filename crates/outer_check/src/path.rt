@@ -181,7 +181,7 @@ impl Path {
           frames = first_split box_no children used ∷ self.old.frames;
         } }
     {
-        // For the proof alone: tells the limits of the path.
+        // For the proof alone: states the limits of the path.
         let _boxes = self.boxes();
         self.push(Frame {
             box_no,

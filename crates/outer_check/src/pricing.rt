@@ -63,7 +63,7 @@ fn gain(instance: &Instance, v: u32, value_weight: u32, share_weight: u32, tuple
     if !fits_alone(instance, v) {
         return 0;
     }
-    // For the proof alone: tells the limits of the instance.
+    // For the proof alone: states the limits of the instance.
     let _count = instance.len();
     let weighed = value_weight as u64 * instance.value(v);
     let cost = share_weight as u64 * share(instance, tuple, v);
@@ -216,7 +216,7 @@ pub(crate) fn price_refusal(
     ensures { result ≡ price_refusal instance.now value
         (node_below choices_with no_choice path.now.frames) value_weight share_weight tuple.now }
 {
-    // For the proof alone: tells the limits of the path.
+    // For the proof alone: states the limits of the path.
     let _boxes = path.boxes();
     if tuple.len() != instance.dims() as usize {
         return Some(RefuseCode::Kind);

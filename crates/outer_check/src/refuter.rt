@@ -170,7 +170,7 @@ impl<'a> OuterRefuter<'a> {
         ensures value { result ≡ is_whole self.now }
         ensures limits { path_length self.now ≤ box_count self.now.instance }
     {
-        // For the proof alone: tells the limits of the path.
+        // For the proof alone: states the limits of the path.
         let _boxes = self.path.boxes();
         self.refused.is_none() & (self.point == Point::AtEnd)
     }

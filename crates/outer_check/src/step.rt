@@ -68,7 +68,7 @@ fn assign_step(instance: &Instance, path: &Path, bins: u32, box_no: u32) -> Step
     ensures { IsTokenStep instance.now (PlainBins bins) path.now.frames (PlainAssign box_no)
         result }
 {
-    // For the proof alone: tells the limits of the path.
+    // For the proof alone: states the limits of the path.
     let _boxes = path.boxes();
     if !names_box(instance, box_no) {
         return Step::Refuse(RefuseCode::Range);
@@ -95,7 +95,7 @@ fn bin_step(instance: &Instance, path: &Path, bins: u32, bin: u32) -> Step
     ensures { IsTokenStep instance.now (PlainBins bins) path.now.frames (PlainSetRefuted (Some bin))
         result }
 {
-    // For the proof alone: tells the limits of the path.
+    // For the proof alone: states the limits of the path.
     let _boxes = path.boxes();
     if !((1 <= bin) & (bin <= path.used())) {
         return Step::Refuse(RefuseCode::Set);
@@ -152,7 +152,7 @@ fn value_where(instance: &Instance, v: u32, test: bool) -> u64
     ensures limit { result ≤ 1000000000 }
     ensures boxes { box_count instance.now ≤ max_boxes }
 {
-    // For the proof alone: tells the limits of the instance.
+    // For the proof alone: states the limits of the instance.
     let _count = instance.len();
     let value = instance.value(v);
     if test { value } else { 0 }
@@ -164,7 +164,7 @@ fn short_step(instance: &Instance, path: &Path, value: u64) -> Step
     requires are { AreOf (PlainValue value) path.now.frames }
     ensures { IsTokenStep instance.now (PlainValue value) path.now.frames PlainValueShort result }
 {
-    // For the proof alone: tells the limits of the path.
+    // For the proof alone: states the limits of the path.
     let _boxes = path.boxes();
     let most = taken_worth(instance, path) + undecided_worth(instance, path);
     if most >= value {
@@ -180,7 +180,7 @@ fn choose_step(instance: &Instance, path: &Path, value: u64, box_no: u32) -> Ste
     ensures { IsTokenStep instance.now (PlainValue value) path.now.frames (PlainChoose box_no)
         result }
 {
-    // For the proof alone: tells the limits of the path.
+    // For the proof alone: states the limits of the path.
     let _boxes = path.boxes();
     if !names_box(instance, box_no) {
         return Step::Refuse(RefuseCode::Range);
@@ -202,7 +202,7 @@ fn set_step(instance: &Instance, path: &Path, value: u64) -> Step
     ensures { IsTokenStep instance.now (PlainValue value) path.now.frames (PlainSetRefuted None)
         result }
 {
-    // For the proof alone: tells the limits of the path.
+    // For the proof alone: states the limits of the path.
     let _boxes = path.boxes();
     if !path.is_some_put(0) {
         return Step::Refuse(RefuseCode::Set);

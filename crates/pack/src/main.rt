@@ -39,9 +39,9 @@ fn command_words(rt: &HostRuntime) -> io::Result<Vec<String>> {
     Ok(words)
 }
 
-// Tells that memory was refused.
+// Reports that memory was refused.
 fn out_of_memory<E: Sink>(err: &mut E) -> ExitCode {
-    // Nothing is left to be told where this fails.
+    // Nothing is left to report where this fails.
     let _told = write_all(err, b"pack: out of memory\n");
     ExitCode::from(6)
 }

@@ -222,7 +222,7 @@ audited_claimed old new sunk_old sunk_new status zero a =
       line = subst (λ t. Appended sunk_old sunk_new t) a.comes.1 a.written;
     }
 
--- ---- how a verdict is told
+-- ---- how a verdict is reported
 
 pub told_reduced : (verdict : Verdict) (is : Result Claim Refusal) → plain_verdict verdict ≡ is
     → IsToldAs (ReducedVerdictOf is) (ToldReduced verdict)

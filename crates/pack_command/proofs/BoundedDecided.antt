@@ -96,7 +96,7 @@ within_by true settings instance old new status (inr between) ample three =
     let few = ample (suc (between.past).low) in
     omega (arith, past, few)
 
--- ---- of the instance that the source tells
+-- ---- of the instance that the source holds
 
 module _ (words : List (String Global)) (old new sunk_old sunk_new : Option (List ℕ)) (status : ℕ) (proposals : Bool)
     (settings : Settings) (instance : PlainInstance)

@@ -73,7 +73,7 @@ task_checks words task check asks =
     go Audits e = absurd (cc (e))
     go Explains e = absurd (cc (e))
 
--- the words tell what is done
+-- the words determine what is done
 pub same_task : (words : List (String Global)) (one other : DocumentTask) → AsksTask words one → AsksTask words other
     → one ≡ other
 same_task words one other a b =

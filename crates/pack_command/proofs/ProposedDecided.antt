@@ -47,7 +47,7 @@ module _ (settings : Settings) (instance : PlainInstance) (limits : IsInstance i
   job_own SolvesKnapsack is = own_proposed SolvesKnapsack instance limits answer
       (choice_own settings instance answer is limits) old new written
 
--- ---- of the instance that the source tells
+-- ---- of the instance that the source holds
 
 module _ (words : List (String Global)) (old new sunk_old sunk_new : Option (List ℕ)) (status : ℕ) (job : ProposedJob)
     (settings : Settings) (instance : PlainInstance)

@@ -141,7 +141,7 @@ module _ (instance : PlainInstance) where
           ∙ (three_partial (front_walk instance settings.budget settings.scales).complete
           (length (front_walk instance settings.budget settings.scales).points)).0 (sym is ∙ e))
 
--- ---- of the instance that the source tells
+-- ---- of the instance that the source holds
 
 module _ (words : List (String Global)) (old new sunk_old sunk_new : Option (List ℕ)) (status : ℕ) (settings : Settings)
     (instance : PlainInstance)

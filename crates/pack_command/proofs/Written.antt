@@ -40,7 +40,7 @@ use Rattle.pack_command.proofs.ValueDecided.{value_decided}
 ok_same : {A B : Type 0} (x y : A) (r : Result A B) → r ≡ Ok x → r ≡ Ok y → x ≡ y
 ok_same x y r e f = cc
 
--- what was taken up to the end is all that the source told
+-- what was taken up to the end is all that the source held
 pub taken_all : (old new : Option (List ℕ)) (bytes told : List ℕ) → old ≡ Some told → Consumed old new bytes → IsAtEnd new
     → bytes ≡ told
 taken_all old None bytes told is gives end = absurd (cc (is, gives))
@@ -49,7 +49,7 @@ taken_all old (Some rest) bytes told is gives end =
     let none : bytes ++ rest ≡ bytes = ap (λ r. bytes ++ r) end ∙ append-nil bytes in
     sym none ∙ whole
 
--- no more can be taken than the source told
+-- no more can be taken than the source held
 pub taken_within : (old new : Option (List ℕ)) (bytes told : List ℕ) → old ≡ Some told → Consumed old new bytes
     → length bytes ≤ length told
 taken_within old None bytes told is gives = absurd (cc (is, gives))
@@ -91,7 +91,7 @@ module _ (words : List (String Global)) (old new sunk_old sunk_new : Option (Lis
       ∙ (ap (λ (x : Settings). answer_for a.job x instance) (settings_same words _ _ _ _ a.asked asks)
       ∙ ap (λ (j : DocumentJob). answer_for j settings instance) (job_same words _ _ _ _ a.asked asks))
 
-  -- the answer that was written is that of the instance that the source told
+  -- the answer that was written is that of the instance that the source held
   pub written_answers : (job : DocumentJob) → AsksToSolve words job settings
       → (status ≡ (answer_for job settings instance).status)
       × Appended sunk_old sunk_new (answer_for job settings instance).text

@@ -139,7 +139,7 @@ IsAsked words (Err ReadFault) = ⊥
 IsAsked words (Err WriteFault) = ⊥
 
 -- The words ask for a solving job, and the input is the text of this instance. `left` is what the
--- source tells.
+-- source holds.
 pub record IsSolving (words : List (String Global)) (left : Option (List ℕ)) (job : DocumentJob) (settings : Settings)
     (instance : PlainInstance) : Type 0 where
   pub asks : AsksToSolve words job settings

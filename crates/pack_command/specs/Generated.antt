@@ -23,7 +23,7 @@ use Rattle.pack_command.specs.declared.stop.Stop.TheVariants.{NoMemory}
 abbrev pub made_for : ℕ → Settings → JobAnswer
 made_for number settings = made_answer number settings.budget settings.scales
 
--- the instance of the number, and what is told of its class tree under the budget
+-- the instance of the number, and the outcome of its class tree under the budget
 pub record IsMadeOf (number : ℕ) (settings : Settings) (made : Made) : Type 0 where
   pub number_is : made.number ≡ number
   pub instance_is : made.instance ≡ made_instance number

@@ -34,7 +34,7 @@ fn made<R: Threads + Wait + Sync, G: Gate + Sync>(
     })
 }
 
-/// Makes the instance of a number, decides whether it fits, and writes the three lines that tell of
+/// Makes the instance of a number, decides whether it fits, and writes the three lines that report
 /// it. It answers the status of the decision, or why the lines weren't written whole.
 pub(crate) fn run_make<R: Threads + Wait + Sync, K: Sink, G: Gate + Sync>(
     rt: &R,

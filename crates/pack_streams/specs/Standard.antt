@@ -1,4 +1,4 @@
--- Sources and sinks over std's readers and writers, by what these tell of their bytes and by the
+-- Sources and sinks over std's readers and writers, by what these state of their bytes and by the
 -- count of faults. A reader's and a writer's known bytes move as the answer says, and the count
 -- rises by one exactly where a call failed.
 use Rattle.std.specs.Prelude.{ℕ, ◌≤◌, List, [], length, take}

@@ -1,4 +1,4 @@
-//! The command line of `pack`, as `clap` is told of it.
+//! The command line of `pack`, as it is declared to `clap`.
 ghost use Rattle.std.specs.Prelude.{◌≡◌, IfOk, map, string_bytes, false};
 ghost use Rattle.clap.specs.Words.{FailsBy, app_of, fault_of, found_of, matches_of, rows_of, rule_of};
 ghost use Rattle.pack_words.specs.Command.{pack_app, bare_app, option_rule, job_rule};

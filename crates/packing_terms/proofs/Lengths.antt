@@ -12,7 +12,7 @@ filter_short p (x ∷ xs) = go (p x) (filter_short p xs)
     go true h = omega (arith, h)
     go false h = omega (arith, h)
 
--- so many in each part
+-- the length, where each part has `k` elements
 pub length_parts : {X Y : Type 0} (f : X → List Y) (k : ℕ) → ((x : X) → length (f x) ≡ k) → (xs : List X)
     → length (flat_map f xs) ≡ length xs * k
 length_parts f k h [] = omega arith

@@ -55,7 +55,7 @@ abbrev pub AreAtEdges : PlainInstance → List Exclusion → Type 0
 AreAtEdges instance [] = Unit {0}
 AreAtEdges instance (e ∷ es) = IsEdge instance e.dim e.u e.v × AreAtEdges instance es
 
--- how many relations there are, of all pairs of so many boxes in so many dimensions
+-- how many relations there are, of all pairs of `n` boxes in `d` dimensions
 abbrev pub relation_count : ℕ → ℕ → ℕ
 relation_count d n = 3 * d * n * (n - 1) / 2
 

@@ -103,7 +103,7 @@ bin_step bins (Assign v) = SplitBy v
 bin_step bins (SetRefuted (Some b)) = Begin (bin_named bins b)
 bin_step bins _ = Close
 
--- the like for a value
+-- the same for a value
 abbrev pub choices_with : Choice → ℕ → List Choice
 choices_with c v = with_taken c (pred v) ∷ with_left c (pred v) ∷ []
 

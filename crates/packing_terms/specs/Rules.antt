@@ -42,7 +42,7 @@ IsChain X i (u ∷ v ∷ vs) = IsSurelyBefore X i u v × IsChain X i (v ∷ vs)
 abbrev pub weight : PlainInstance → ℕ → List ℕ → ℕ
 weight instance i vs = sum_by (λ v. side instance v i) vs
 
--- distinct boxes, of so many
+-- distinct boxes of the first `n`
 abbrev pub AreBoxesAmong : ℕ → List ℕ → Type 0
 AreBoxesAmong n [] = Unit {0}
 AreBoxesAmong n (v ∷ vs) = (v < n) × AllByRecursion (λ u. v ≢ u) vs × AreBoxesAmong n vs

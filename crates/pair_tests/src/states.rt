@@ -80,7 +80,7 @@ fn answers(state: &mut EdgeState, step: Step) -> bool {
     }
 }
 
-// The first step that is answered otherwise by a state of so many boxes in two dimensions.
+// The first step that is answered otherwise by a state of `boxes` boxes in two dimensions.
 fn first_wrong(alloc: Global, boxes: u32, steps: &[Step]) -> Result<Option<usize>, Fail> {
     if boxes == 0 || boxes > 128 {
         return Ok(Some(0));
@@ -94,7 +94,7 @@ fn first_wrong(alloc: Global, boxes: u32, steps: &[Step]) -> Result<Option<usize
     Ok(None)
 }
 
-// Exclusions are told, and mirrored.
+// Exclusions are reported, and mirrored.
 const PAIRS: [Step; 9] = [
     Excludes((0, 0, 1), Rel::Overlap, Excluded::New),
     Excludes((0, 0, 1), Rel::Overlap, Excluded::Already),

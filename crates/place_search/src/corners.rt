@@ -40,7 +40,7 @@ enum Try {
     Back,
 }
 
-/// The room of a search, for instances of so many boxes and dimensions.
+/// The room of a search, for instances of a given number of boxes and dimensions.
 #[derive(Drop)]
 pub struct CornerSearch {
     /// The places of the boxes, box after box.
@@ -54,7 +54,7 @@ pub struct CornerSearch {
 }
 
 impl CornerSearch {
-    /// Room for so many boxes in so many dimensions. A box gives a point for each two dimensions in
+    /// Room for `count` boxes in `dims` dimensions. A box gives a point for each two dimensions in
     /// each order, and each level down uses a point.
     pub fn new(alloc: Global, dims: u32, count: u32) -> Result<CornerSearch, NoMemory> {
         let (d, n) = (dims as usize, count as usize);
@@ -121,7 +121,8 @@ impl CornerSearch {
         false
     }
 
-    // The lowest of so many points that isn't used, counted from 1, or 0 where none is left.
+    // The lowest of the first `points` points that isn't used, counted from 1, or 0 where none is
+    // left.
     fn lowest(&self, points: usize) -> usize {
         let mut best = 0;
         for k in 0..points {
@@ -236,7 +237,7 @@ impl CornerSearch {
         put(&mut self.points, first.saturating_add(dim as usize), x);
     }
 
-    // Whether one of so many points is the same as this.
+    // Whether one of the first `points` points is the same as this.
     fn is_known(&self, point: usize, points: usize) -> bool {
         for k in 0..points {
             if !self.is_lower(k, point) && !self.is_lower(point, k) {
@@ -336,7 +337,7 @@ impl CornerSearch {
         self.set_level(0, Level { points: 1, ..START });
     }
 
-    /// Searches with an order of the boxes, for at most so many steps.
+    /// Searches with an order of the boxes, for at most `steps` steps.
     pub fn run(
         &mut self,
         turned: &OrientedInstance,

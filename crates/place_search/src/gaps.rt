@@ -58,7 +58,7 @@ const START: Level = Level {
     spare: 0,
 };
 
-/// The room of a search, for instances of so many boxes.
+/// The room of a search, for instances of a given number of boxes.
 #[derive(Drop)]
 pub struct GapSearch {
     /// The places of the boxes, box after box.
@@ -70,7 +70,7 @@ pub struct GapSearch {
 }
 
 impl GapSearch {
-    /// Room for so many boxes. Each level down lays a box or loses a segment, and each box makes at
+    /// Room for `count` boxes. Each level down lays a box or loses a segment, and each box makes at
     /// most one segment more.
     pub fn new(alloc: Global, count: u32) -> Result<GapSearch, NoMemory> {
         let width = count as usize + 2;
@@ -284,7 +284,7 @@ impl GapSearch {
         true
     }
 
-    /// Searches with an order of the boxes, for at most so many steps.
+    /// Searches with an order of the boxes, for at most `steps` steps.
     pub fn run(
         &mut self,
         turned: &OrientedInstance,

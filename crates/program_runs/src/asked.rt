@@ -1,5 +1,5 @@
-//! What a run answers and writes, each asked by one call: what the run told is compared and dropped
-//! there, so that a test holds nothing.
+//! What a run answers and writes, each asked by one call: what the run reported is compared and
+//! dropped there, so that a test holds nothing.
 use crate::runs::{run_on, run_with_read_fault, run_with_workers, run_with_write_fault};
 use std::alloc::{AllocError, AllocGlobal};
 use std::sync::Wait;
@@ -61,7 +61,7 @@ pub fn is_refused<R: AllocGlobal + Threads + Wait + Sync>(
     Ok(run_on(rt, words, input)?.is_stop(2, line, b""))
 }
 
-/// Whether a run ends with a read fault and writes nothing, where the read behind so many bytes of
+/// Whether a run ends with a read fault and writes nothing, where the read behind `count` bytes of
 /// the input fails.
 pub fn stops_reading<R: AllocGlobal + Threads + Wait + Sync>(
     rt: &R,
@@ -72,7 +72,7 @@ pub fn stops_reading<R: AllocGlobal + Threads + Wait + Sync>(
     Ok(run_with_read_fault(rt, words, input, count)?.is_stop(4, "pack: read fault\n", b""))
 }
 
-/// Whether a run ends with a write fault and leaves so many bytes of the document, where the write
+/// Whether a run ends with a write fault and leaves `count` bytes of the document, where the write
 /// behind them fails.
 pub fn stops_writing<R: AllocGlobal + Threads + Wait + Sync>(
     rt: &R,
@@ -105,7 +105,8 @@ pub fn has_128_boxes<R: AllocGlobal + Threads + Wait + Sync>(
     )
 }
 
-/// Whether a run by so many workers, which call the gate, answers and writes what one worker does.
+/// Whether a run by `workers` workers, which call the gate, answers and writes what one worker
+/// does.
 pub fn matches_one_worker<R: AllocGlobal + Threads + Wait + Sync, G: Gate + Sync>(
     rt: &R,
     words: &[&str],

@@ -21,7 +21,7 @@ impl RunResult {
         self.status == status && self.out.as_slice() == lines.as_bytes() && self.err.is_empty()
     }
 
-    /// Whether the run ended with this status, told this cause, and wrote these bytes before.
+    /// Whether the run ended with this status, reported this cause, and wrote these bytes before.
     pub fn is_stop(&self, status: u8, cause: &str, out: &[u8]) -> bool {
         self.status == status
             && self.err.as_slice() == cause.as_bytes()
@@ -115,7 +115,7 @@ fn told_into<R: AllocGlobal + Threads + Wait + Sync, G: Gate + Sync>(
     told_behind(alloc, status, &out, &err, source)
 }
 
-// What a run told that left its source and its sinks so.
+// The result of a run that left its source and its sinks so.
 fn told_behind(
     alloc: Global,
     status: u8,
@@ -146,7 +146,7 @@ fn source_of(alloc: Global, input: &[u8], reads: &[ReadStep]) -> Result<MemorySo
     Ok(MemorySource::new(bytes, Vec::from_slice(alloc, reads)?))
 }
 
-// A sink with room for so many bytes at first.
+// A sink with room for `room` bytes at first.
 fn sink_of(alloc: Global, room: usize, writes: &[WriteStep]) -> Result<MemorySink, AllocError> {
     let plan = Vec::from_slice(alloc, writes)?;
     let Ok(sink) = MemorySink::new(alloc, room, plan) else {
@@ -180,7 +180,7 @@ pub fn run_on<R: AllocGlobal + Threads + Wait + Sync>(
     run_with(rt, words, input, Plans::none(), &NoGate)
 }
 
-/// Runs the words on the input, which comes byte by byte up to a fault behind so many bytes.
+/// Runs the words on the input, which comes byte by byte up to a fault behind `count` bytes.
 pub fn run_with_read_fault<R: AllocGlobal + Threads + Wait + Sync>(
     rt: &R,
     words: &[&str],
@@ -192,7 +192,7 @@ pub fn run_with_read_fault<R: AllocGlobal + Threads + Wait + Sync>(
     run_with_plans(rt, words, input, &reads, &[])
 }
 
-/// Runs the words on the input, where so many bytes are taken one by one before a write fails.
+/// Runs the words on the input, where `count` bytes are taken one by one before a write fails.
 pub fn run_with_write_fault<R: AllocGlobal + Threads + Wait + Sync>(
     rt: &R,
     words: &[&str],
@@ -204,7 +204,7 @@ pub fn run_with_write_fault<R: AllocGlobal + Threads + Wait + Sync>(
     run_with_plans(rt, words, input, &[], &writes)
 }
 
-/// Runs the words on the input by so many workers, which call the gate.
+/// Runs the words on the input by `workers` workers, which call the gate.
 pub fn run_with_workers<R: AllocGlobal + Threads + Wait + Sync, G: Gate + Sync>(
     rt: &R,
     words: &[&str],
@@ -216,7 +216,7 @@ pub fn run_with_workers<R: AllocGlobal + Threads + Wait + Sync, G: Gate + Sync>(
     run_with(rt, &given, input, Plans::none(), gate)
 }
 
-// The words, and behind them so many workers.
+// The words, and behind them `--workers` and the number of workers.
 fn with_workers<'a>(
     alloc: Global,
     words: &[&'a str],

@@ -35,7 +35,7 @@ const ROWS: [(&[&str], u8, &str); 5] = [
     ),
 ];
 
-// Whether the words have this status and these lines by so many workers, who read nothing.
+// Whether the words have this status and these lines with `workers` workers, which read nothing.
 fn is_made<R: AllocGlobal + Threads + Wait + Sync>(
     rt: &R,
     words: &[&str],

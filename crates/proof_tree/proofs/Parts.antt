@@ -105,7 +105,7 @@ count_off ss k n d b l h e f =
     let o = wide_none (shown (get_or ss k d)) b e f in
     omega (arith, m, o, h)
 
--- all are told
+-- all tokens are listed
 pub all_told : (ss : List Short) (ws done : List PlainToken) (k n : ℕ)
     → done ++ listed (drop k ss) (drop n ws) ≡ listed ss ws → length ss ≤ k → done ≡ listed ss ws
 all_told ss ws done k n left l =

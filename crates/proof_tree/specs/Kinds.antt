@@ -43,7 +43,7 @@ of_kind d IsSetRefuted words = set_token (parameters words)
 of_kind d IsValueShort words = of_none ValueShort (parameters words)
 of_kind d IsGlobalScales words = tuple_of d GlobalScales (functions words)
 
--- parameters, where there are just so many
+-- the parameters, where there are exactly as many as the result holds
 abbrev pub only : Option (List ℕ) → Option ℕ
 only (Some (x ∷ [])) = Some x
 only _ = None

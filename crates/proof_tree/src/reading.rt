@@ -76,7 +76,7 @@ pub fn parameter_at(line: &LineLexer, k: u32) -> Option<u32>
     requires { k < length line.now.held.words }
     ensures { result ≡ parameter (slice_index_or line.now.held.words k []) }
 {
-    // For the proof alone: tells the limits of the line's words.
+    // For the proof alone: states the limits of the line's words.
     let _count = line.word_count();
     let number = read_number(line.word(k))?;
     if number > u32::MAX as u128 {
@@ -128,7 +128,7 @@ fn named_at(line: &LineLexer, k: u32) -> Option<ScaleFn>
     ensures { result ≡ named_function (slice_index_or line.now.held.words k [])
         (slice_index_or line.now.held.words (k + 1) []) }
 {
-    // For the proof alone: tells the limits of the line's words.
+    // For the proof alone: states the limits of the line's words.
     let _count = line.word_count();
     let name = line.word(k);
     if is_same(name, b"step") {

@@ -87,7 +87,7 @@ fn bins_are_closed_by_proposals(rt: HostRuntime) -> Result<(), Fail> {
     Ok(())
 }
 
-// Whether no bin and two are told at the roots, and two under an ample budget.
+// Whether the answer is between no bin and two at the roots, and two under an ample budget.
 fn is_open_at_the_roots<R: Threads + Wait + Sync>(
     rt: &R,
     alloc: Global,
@@ -113,7 +113,7 @@ fn a_box_that_is_too_large_is_named(rt: HostRuntime) -> Result<(), Fail> {
     Ok(())
 }
 
-// Whether what is proposed for the four boxes, two bins and twelve numbers, is a packing in so many
+// Whether what is proposed for the four boxes, two bins and twelve numbers, is a packing in `count`
 // bins once these numbers stand in their places.
 fn passes_with(
     alloc: Global,

@@ -113,9 +113,9 @@ fn values_are_refuted_by_a_proposed_tree(rt: HostRuntime) -> Result<(), Fail> {
     Ok(())
 }
 
-// Whether two values are told at the roots, and the greatest under an ample budget. That five are
-// too many is refuted by a tree with branchings, and by no token for the set of all: without it 5
-// is between the two and beside both.
+// Whether the answer is between two values at the roots, and the greatest under an ample budget.
+// That five are too many is refuted by a tree with branchings, and by no token for the set of all:
+// without it 5 is between the two and beside both.
 fn is_open_at_the_roots<R: Threads + Wait + Sync>(
     rt: &R,
     alloc: Global,

@@ -66,7 +66,7 @@ pub(crate) fn is_packing(instance: &Instance, places: &[u32]) -> bool {
         && check_places(instance, places) == PlaceVerdict::Good
 }
 
-/// Whether two outcomes are the same, as far as places, counts and the number of tokens tell.
+/// Whether two outcomes are the same, as far as places, counts and the number of tokens show.
 pub(crate) fn are_same(first: &Outcome, second: &Outcome) -> bool {
     match (first, second) {
         (

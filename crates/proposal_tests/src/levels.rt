@@ -92,7 +92,7 @@ fn a_height_is_refuted_by_proposals(rt: HostRuntime) -> Result<(), Fail> {
     Ok(())
 }
 
-// Whether the second box is told to be too wide.
+// Whether the answer is that the second box is too wide.
 fn is_too_wide<R: Threads + Wait + Sync>(
     rt: &R,
     alloc: Global,

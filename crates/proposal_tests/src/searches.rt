@@ -31,7 +31,7 @@ fn the_lowest_corner_finds_blocks(rt: HostRuntime) -> Result<(), Fail> {
     Ok(())
 }
 
-// What the search for refutations answers within so many splits.
+// What the search for refutations answers within a given number of splits.
 #[derive(Clone, Copy)]
 enum Answer {
     Nothing,

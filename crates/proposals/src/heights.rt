@@ -16,8 +16,8 @@ const DEEP_FILLS: u64 = 150;
 
 const FILLS_PER_BOX: u64 = 25;
 
-// In three dimensions and more the fills of so many batches are made in one, since longer rounds
-// pack lower: three strips of 20, 40 and 60 boxes 1 to 3 % with as many fills in all.
+// In three dimensions and more the fills of at most this number of batches are made in one, since
+// longer rounds pack lower: three strips of 20, 40 and 60 boxes 1 to 3 % with as many fills in all.
 const MOST_MERGED: u64 = 16;
 
 // For each batch the widest beam has this many nodes more, up to a number of batches. With 8 for a

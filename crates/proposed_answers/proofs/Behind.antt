@@ -122,7 +122,7 @@ tokens_right instance tokens all b e f g =
     subst (λ (ts : List Token). Refutes instance [] (map plain_token ts)) e
     ((inner_fed instance [] (map plain_token all)).0 (sym f ∙ g))
 
--- what is told of a tree is past only where the tree has more branchings than the budget
+-- the outcome under a budget is past only where the tree has more branchings than the budget
 pub told_more : (budget : ℕ) (v : Verdict) → under_budget budget v ≡ Past → budget < count_of v
 told_more budget v e = go (ltb budget (count_of v)) refl e
   where

@@ -26,7 +26,7 @@ use Rattle.bin_knapsack.specs.BinAnswers.{IsAnswer, AreTrueBins, IsCertifiedBetw
 use Rattle.proposed_answers.specs.Counts.{bins_count, IsPastCount, IsBinsAnswer, AreBinBounds, AreFirstBounds, TellsBins}
 use Rattle.proposed_answers.specs.Counts.{AreNamedBins, AreLimitedBins, AreNeighboursPastBudget}
 
--- what is told of the tree for a number of bins is the answer there
+-- the outcome under the budget of the tree for a number of bins is the answer there
 pub bins_answered : (instance : PlainInstance) (settings : Settings) (k : ℕ)
     → IsBinRight instance k [] (outcome (bin_tree instance k settings.scales))
     → IsBinsAnswer instance settings k (bin_answer instance settings.budget settings.scales k)
@@ -76,7 +76,7 @@ bounds_afresh instance Spent settings b h =
     are_first (AreBinNumbers instance) (IsBinRefutation instance) (IsPastCount instance settings) (box_count instance)
     b.refuted b.placed b.tokens b.numbers h.order h.within h.denied h.shown
 
--- ---- what the bounds that were reached tell
+-- ---- what the bounds that were reached show
 
 module _ (instance : PlainInstance) (limits : IsInternalInstance instance) (settings : Settings) (b : PlainBounds)
     (are : AreBinBounds instance settings b) (narrow : HasNoLevelLeft b) where

@@ -112,7 +112,7 @@ bounds_afresh instance Spent settings b h =
     are_first (ShowsLevel instance) (RefutesLevel instance) (IsPastLevel instance settings) (top_value instance)
     b.refuted b.placed b.tokens b.numbers h.order h.within h.denied h.shown
 
--- ---- what the bounds that were reached tell
+-- ---- what the bounds that were reached show
 
 module _ (instance : PlainInstance) (limits : IsInternalInstance instance) (settings : Settings) (b : PlainBounds)
     (are : AreValueBounds instance settings b) (narrow : HasNoLevelLeft b) where

@@ -20,7 +20,7 @@ pub choice_places : (instance : PlainInstance) (taken places : List ℕ) → IsC
     → length taken * dims instance ≡ length places
 choice_places instance taken places is = ap (λ n. n * dims instance) (sym (length-map taken _)) ∙ sym (is.packing).count
 
--- what is told of the boxes and of their places
+-- whether a set of boxes and their places are a choice, by whether the places are a packing
 pub choice_by : (instance : PlainInstance) (taken places : List ℕ) → IsBoxSet instance taken → (b : Bool)
     → MatchBool b (IsPacking (subset instance taken) places) (¬ IsPacking (subset instance taken) places)
     → MatchBool b (IsChoice instance taken places) (¬ IsChoice instance taken places)

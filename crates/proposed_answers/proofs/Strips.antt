@@ -76,7 +76,7 @@ bounds_afresh instance settings e f b h =
     are_first (IsPackedAt instance) (IsRefutedAt instance) (IsPastHeight instance settings f) max_height b.refuted
     b.placed b.tokens b.numbers h.order h.within h.denied h.shown
 
--- ---- what the bounds that were reached tell
+-- ---- what the bounds that were reached show
 
 module _ (instance : PlainInstance) (limits : IsInternalInstance instance) (settings : Settings) (b : PlainBounds)
     (are : AreHeightBounds instance settings Share b) (narrow : HasNoLevelLeft b) where

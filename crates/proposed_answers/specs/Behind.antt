@@ -55,7 +55,7 @@ outcome_with_proposal instance (Places places) other = by_places (place_verdict 
 outcome_with_proposal instance (Tokens tokens) other = by_tokens (is_refutation instance tokens) tokens other
 outcome_with_proposal instance Nothing other = other
 
--- the count of branchings of the described tree, and what is told of it under a budget
+-- the count of branchings of the described tree, and its outcome under a budget
 abbrev pub tree_count : PlainInstance → Bool → ℕ
 tree_count instance scales = count_of (outcome (class_tree instance [] scales))
 

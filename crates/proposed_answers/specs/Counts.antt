@@ -14,7 +14,7 @@ use Rattle.level_bounds.specs.Bounds.{PlainBounds, IsRightAnswer, AreBounds}
 use Rattle.bin_knapsack.specs.declared.bins.Bins.{Bins}
 use Rattle.bin_knapsack.specs.declared.bins.Bins.TheVariants.{Least, Between, NoneFits}
 
--- the count of branchings of the bin tree for so many bins
+-- the count of branchings of the bin tree for `k` bins
 abbrev pub bins_count : PlainInstance → Bool → ℕ → ℕ
 bins_count instance scales k = count_of (outcome (bin_tree instance k scales))
 
@@ -33,12 +33,12 @@ abbrev pub AreBinBounds : PlainInstance → Settings → PlainBounds → Type 0
 AreBinBounds instance settings =
     AreBounds (AreBinNumbers instance) (IsBinRefutation instance) (IsPastCount instance settings) (box_count instance)
 
--- the like where nothing is known of what was left undecided
+-- the same where nothing is known of what was left undecided
 abbrev pub AreFirstBounds : PlainInstance → PlainBounds → Type 0
 AreFirstBounds instance = AreBounds (AreBinNumbers instance) (IsBinRefutation instance) (λ k. Unit {0})
     (box_count instance)
 
--- the answer tells these bounds
+-- the answer states these bounds
 pub record TellsLeast (b : PlainBounds) (bins : ℕ) (numbers : List ℕ) (tokens : List PlainToken) : Type 0 where
   pub beside : suc b.refuted ≡ b.placed
   pub bins_are : bins ≡ b.placed

@@ -47,7 +47,7 @@ abbrev pub AreHeightBounds : PlainInstance → Settings → Effort → PlainBoun
 AreHeightBounds instance settings effort =
     AreBounds (IsPackedAt instance) (IsRefutedAt instance) (IsPastHeight instance settings effort) max_height
 
--- the answer tells these bounds
+-- the answer states these bounds
 pub record TellsLeast (b : PlainBounds) (height : ℕ) (places : List ℕ) (tokens : List PlainToken) : Type 0 where
   pub beside : suc b.refuted ≡ b.placed
   pub height_is : height ≡ b.placed

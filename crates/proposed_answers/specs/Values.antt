@@ -59,12 +59,12 @@ abbrev pub AreValueBounds : PlainInstance → Settings → PlainBounds → Type 
 AreValueBounds instance settings =
     AreBounds (ShowsLevel instance) (RefutesLevel instance) (IsPastLevel instance settings) (top_value instance)
 
--- the like where nothing is known of what was left undecided
+-- the same where nothing is known of what was left undecided
 abbrev pub AreFirstBounds : PlainInstance → PlainBounds → Type 0
 AreFirstBounds instance = AreBounds (ShowsLevel instance) (RefutesLevel instance) (λ level. Unit {0})
     (top_value instance)
 
--- the answer tells these bounds
+-- the answer states these bounds
 pub record TellsGreatest (instance : PlainInstance) (b : PlainBounds) (value : ℕ) (numbers : List ℕ)
     (tokens : List PlainToken) : Type 0 where
   pub beside : suc b.refuted ≡ b.placed
@@ -86,7 +86,7 @@ TellsValues instance b (Greatest value numbers tokens) =
 TellsValues instance b (Between placed numbers refuted tokens) =
     TellsBetween instance b placed numbers.items refuted tokens
 
--- what is told as refuted is at most one more than all boxes are worth
+-- the value that is given as refuted is at most one more than all boxes are worth
 abbrev pub IsLimitedChoice : PlainInstance → Choice → Type 0
 IsLimitedChoice instance (Greatest value numbers tokens) = value < top_value instance
 IsLimitedChoice instance (Between placed numbers refuted tokens) = refuted ≤ top_value instance

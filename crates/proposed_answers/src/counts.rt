@@ -32,7 +32,7 @@ pub(crate) fn narrow_bins<R: Threads + Wait + Sync, G: Gate + Sync>(
     ensures kept { IfOk result (λ b. AreBinBounds instance.now settings.now (plain_bounds b)) }
     ensures narrow { IfOk result (λ b. HasNoLevelLeft (plain_bounds b)) }
 {
-    // For the proof alone: tells the limits of the instance.
+    // For the proof alone: states the limits of the instance.
     let _limits = instance.len();
     let mut bounds = bounds;
     while let Some(level) = bounds.next_level() {

@@ -120,7 +120,7 @@ fn decide_open<R: Threads + Wait + Sync, G: Gate + Sync>(
     ensures plain { settings.now.scales ≡ false
         → IfOk result (λ r. IsWithoutScales (plain_outcome r)) }
 {
-    // For the proof alone: tells the limits of the instance.
+    // For the proof alone: states the limits of the instance.
     let _limits = instance.len();
     let proposal = propose_refuted(alloc, instance, settings.scales, settings.budget)?;
     let proposal = wanted(instance, proposal, settings.scales);
@@ -146,7 +146,7 @@ fn decide_packed<R: Threads + Wait + Sync, G: Gate + Sync>(
     ensures plain { settings.now.scales ≡ false
         → IfOk result (λ r. IsWithoutScales (plain_outcome r)) }
 {
-    // For the proof alone: tells the limits of the instance.
+    // For the proof alone: states the limits of the instance.
     let _limits = instance.len();
     let places = propose_packed(rt, alloc, instance, settings)?;
     let places = wanted(instance, places, settings.scales);
@@ -185,7 +185,7 @@ fn decide_in_order<R: Threads + Wait + Sync, G: Gate + Sync>(
     ensures plain { settings.now.scales ≡ false
         → IfOk result (λ r. IsWithoutScales (plain_outcome r)) }
 {
-    // For the proof alone: tells the limits of the instance.
+    // For the proof alone: states the limits of the instance.
     let _limits = instance.len();
     let root = root_settings(settings);
     match decide_with_proposal(rt, alloc, instance, Proposal::Nothing, &root, gate)? {
@@ -224,7 +224,7 @@ pub fn decide_proposed<R: Threads + Wait + Sync, G: Gate + Sync>(
     ensures plain { settings.now.scales ≡ false
         → IfOk result (λ r. IsWithoutScales (plain_outcome r)) }
 {
-    // For the proof alone: tells the limits of the instance.
+    // For the proof alone: states the limits of the instance.
     let _limits = instance.len();
     decide_in_order(rt, alloc, instance, settings, gate)
 }

@@ -139,7 +139,7 @@ pub fn greatest_value_proposed<R: Threads + Wait + Sync, G: Gate + Sync>(
     ensures past { IfOk result
         (λ c. AreNeighboursPastBudget instance.now settings.now.budget settings.now.scales c) }
 {
-    // For the proof alone: tells the limits of the instance.
+    // For the proof alone: states the limits of the instance.
     let _limits = instance.len();
     let first = first_values(alloc, instance)?;
     let top = first.refuted;

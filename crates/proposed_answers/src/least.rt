@@ -33,7 +33,7 @@ fn rough(settings: &Settings) -> Settings
     }
 }
 
-// The trees of numbers of bins may have so many times the branchings of the budget, at most the
+// The trees of numbers of bins may have `BIN_PART` times the branchings of the budget, at most the
 // greatest budget: most of their branchings are sets that come again, at some 2 microseconds each.
 // Of 8 texts that were left open one is decided (40 boxes in three dimensions, least 9), and the
 // longest of 34 takes 11 s for 2 s.
@@ -115,7 +115,7 @@ fn narrowed<R: Threads + Wait + Sync, G: Gate + Sync>(
     ensures past { IfOk result
         (λ b. AreNeighboursPastBudget instance.now settings.now.budget settings.now.scales b) }
 {
-    // For the proof alone: tells the limits of the instance.
+    // For the proof alone: states the limits of the instance.
     let _limits = instance.len();
     let few = rough(settings);
     let mut search = SetSearch::new(alloc, instance, settings.scales)?;
@@ -149,7 +149,7 @@ pub fn least_bins_proposed<R: Threads + Wait + Sync, G: Gate + Sync>(
     ensures past { IfOk result
         (λ b. AreNeighboursPastBudget instance.now settings.now.budget settings.now.scales b) }
 {
-    // For the proof alone: tells the limits of the instance.
+    // For the proof alone: states the limits of the instance.
     let _limits = instance.len();
     let found = least_bins(rt, alloc, instance, &rough(settings), gate)?;
     match found {

@@ -83,7 +83,7 @@ fn narrowed<R: Threads + Wait + Sync, G: Gate + Sync>(
     ensures past { IfOk result
         (λ s. AreNeighboursPastBudget instance.now settings.now.budget settings.now.scales s) }
 {
-    // For the proof alone: tells the limits of the instance.
+    // For the proof alone: states the limits of the instance.
     let _limits = instance.len();
     let ends = both_ends(rt, alloc, instance, first, settings, gate)?;
     let bounds = narrow_in_rounds(rt, alloc, instance, ends, settings, gate)?;
@@ -115,7 +115,7 @@ pub fn least_height_proposed<R: Threads + Wait + Sync, G: Gate + Sync>(
     ensures past { IfOk result
         (λ s. AreNeighboursPastBudget instance.now settings.now.budget settings.now.scales s) }
 {
-    // For the proof alone: tells the limits of the instance.
+    // For the proof alone: states the limits of the instance.
     let _limits = instance.len();
     let found = least_height(rt, alloc, instance, &at_root(settings), gate)?;
     match found {

@@ -41,7 +41,7 @@ fn decide_level<R: Threads + Wait + Sync, G: Gate + Sync>(
     ensures answer { IfOk result
         (λ l. IsLevelAnswer instance.now settings.now level (plain_level l)) }
 {
-    // For the proof alone: tells the limits of the instance.
+    // For the proof alone: states the limits of the instance.
     let _limits = instance.len();
     let value = top.saturating_sub(level);
     let within = Settings {

@@ -83,7 +83,7 @@ module _ (instance : PlainInstance) (h : ℕ) (limits : IsInternalInstance (with
       back (Yes places count) right is_yes = (places, right)
       back (No tokens count) right is_yes = absurd is_yes
 
--- what is told of the tree at a height
+-- the outcome of the tree at a height
 module _ (instance : PlainInstance) (start : List Exclusion) (budget : ℕ) (scales : Bool) where
   abbrev answers : ℕ → PlainLevel
   answers = height_answer_from start instance budget scales

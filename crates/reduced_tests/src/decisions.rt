@@ -100,7 +100,7 @@ fn is_no_at_once(alloc: Global, outcome: &Outcome) -> Result<bool, NoMemory> {
     })
 }
 
-// Whether the instance is refuted by its facts alone, by so many workers.
+// Whether the instance is refuted by its facts alone, by `workers` workers.
 fn is_refuted<R: Threads + Wait + Sync>(
     rt: &R,
     alloc: Global,
@@ -121,7 +121,7 @@ fn is_yes(outcome: &Outcome, places: &[u32]) -> bool {
     }
 }
 
-// Whether two boxes that stand on one another are placed, by so many workers.
+// Whether two boxes that stand on one another are placed, by `workers` workers.
 fn is_placed<R: Threads + Wait + Sync>(rt: &R, alloc: Global, workers: u32) -> Result<bool, Fail> {
     let two = flat(alloc, [10, 10], &[[6, 4], [6, 6]])?;
     let outcome = decide_reduced(rt, alloc, &two, &settings(workers, true), &NoGate)?;
@@ -138,7 +138,7 @@ fn twins_in_a_row_are_refuted_at_once(rt: HostRuntime) -> Result<(), Fail> {
     Ok(())
 }
 
-// Whether the budget is spent on two equal boxes in a container of twice their width, by so many
+// Whether the budget is spent on two equal boxes in a container of twice their width, by `workers`
 // workers: the facts alone settle nothing.
 fn is_past<R: Threads + Wait + Sync>(rt: &R, alloc: Global, workers: u32) -> Result<bool, Fail> {
     let crossing = flat(alloc, [4, 4], &[[2, 1], [2, 1]])?;

@@ -20,7 +20,7 @@ fn strip(alloc: Global, width: u32, sides: &[[u32; 2]]) -> Result<Instance, Fail
     Ok(Instance::new(Sides::from_slice(alloc, &[width, 1])?, boxes)?)
 }
 
-// What is found within this budget, by so many workers.
+// What is found within this budget, by `workers` workers.
 fn found<R: Threads + Wait + Sync>(
     rt: &R,
     alloc: Global,

@@ -89,7 +89,7 @@ filter_count : {X : Type 0} (p : X → Bool) (xs ys : List X)
     → length (filter p (xs ++ ys)) ≡ length (filter p xs) + length (filter p ys)
 filter_count p xs ys = ap length (filter_joined p xs ys) ∙ length-append (filter p xs) (filter p ys)
 
--- so many in each part
+-- a bound on the count in each part gives one on the count in all parts
 each_part : {X Y : Type 0} (p : Y → Bool) (f : X → List Y) (c k : ℕ) (xs : List X)
     → ((x : X) → IsIn x xs → k ≤ c * length (filter p (f x)))
     → length xs * k ≤ c * length (filter p (flat_map f xs))

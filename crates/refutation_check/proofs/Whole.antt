@@ -25,7 +25,7 @@ pub record IsFedOn (res : Result (List (List Exclusion)) RefuseCode) (c : Checke
   pub nodes : List (List Exclusion)
   pub opens : c.nodes ≡ node ∷ nodes
 
--- what is answered to a token tells what it leaves
+-- the answer to a token states what the token leaves
 abbrev pub IsFedAs : Result (List (List Exclusion)) RefuseCode → Checked (List Exclusion) → FeedVerdict → Type 0
 IsFedAs res c More = IsFedOn res c
 IsFedAs res c Done = res ≡ Ok []

@@ -5,7 +5,7 @@ use Rattle.packing_terms.specs.Packing.{PlainInstance}
 use Rattle.packing_terms.specs.Exclusions.{Exclusions}
 use Rattle.closure_terms.specs.Ends.{IsClosureOf, IsConflictOf}
 
--- the closure of E has a conflict where that is told, and else the list is exactly that closure
+-- the closure of E has a conflict where the flag is true, and else the list is exactly that closure
 abbrev pub IsEnded : PlainInstance → Exclusions → List Exclusion → Bool → Type 0
 IsEnded instance E es true = IsConflictOf instance E es
 IsEnded instance E es false = IsClosureOf instance E es

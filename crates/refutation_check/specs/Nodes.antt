@@ -78,7 +78,7 @@ all_relations instance = relation_count (dims instance) (box_count instance)
 abbrev pub above : List Exclusion → List Exclusion → OpenNode → List Exclusion
 above start splits n = reverse (take n.splits splits) ++ start
 
--- an open node, with so many others below it on the stack
+-- an open node, with `others` other nodes below it on the stack
 pub record IsHeldNode (instance : PlainInstance) (start splits trail : List Exclusion) (others : ℕ) (n : OpenNode) :
     Type 0 where
   pub stands : Stands instance (above start splits n) n.first (oldest n.mark trail)

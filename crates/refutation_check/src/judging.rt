@@ -170,7 +170,7 @@ pub fn are_legal(instance: &Instance, tuple: &[ScaleFn]) -> bool
     true
 }
 
-/// The first test that a tuple of scale functions fails for so many copies of the container, which
+/// The first test that a tuple of scale functions fails for `copies` copies of the container, which
 /// are at most 128: `Kind` where it hasn't a function for each dimension, `Range` where one isn't
 /// legal for its container side, else `Excess` where a side of a box exceeds the container's or the
 /// tuple doesn't exceed.

@@ -173,7 +173,7 @@ impl<'a> Refuter<'a> {
                 code: RefuseCode::After,
             };
         }
-        // For the proof alone: tells the limits of the instance.
+        // For the proof alone: states the limits of the instance.
         let _dims = self.boxes.instance().dims();
         let last = self.nodes.len() - 1;
         let node = self.nodes[last];

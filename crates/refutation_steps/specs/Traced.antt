@@ -35,7 +35,7 @@ IsEntered instance w None = IsTracked instance w
 IsEntered instance w (Some node) =
     IsTracked instance w × IsKnown instance w.state.trail node.closed × (node.before ≤ length w.state.trail)
 
--- what is told of the list where a closing came to this
+-- what is known of the list where a closing came to this
 abbrev pub IsClosedWhere : PlainInstance → Closings → Option Closed → Type 0
 IsClosedWhere instance w None = Unit {0}
 IsClosedWhere instance w (Some Conflict) = Unit {0}

@@ -34,7 +34,7 @@ pub struct ChainScratch {
     pub after: Vec<u32>,
 }
 
-// So many weights.
+// `boxes` weights, all 0.
 fn weights_of(alloc: Global, boxes: u32) -> Result<Vec<u64>, NoMemory>
     ensures { IfOk result (λ list. length list.items ≡ boxes) }
 {
@@ -44,7 +44,7 @@ fn weights_of(alloc: Global, boxes: u32) -> Result<Vec<u64>, NoMemory>
     Ok(list)
 }
 
-/// Room for so many boxes.
+/// Room for `boxes` boxes.
 pub(crate) fn chain_room(alloc: Global, boxes: u32) -> Result<ChainScratch, NoMemory>
     ensures { IfOk result (λ room. HasWeights boxes room.head.items room.tail.items) }
 {
@@ -79,7 +79,7 @@ fn weigh_chains(instance: &Instance, state: &EdgeState, dim: u32, room: &mut Cha
     ensures heads { AreWeighed instance.now state.now dim Backwards room.new.head.items }
     ensures tails { AreWeighed instance.now state.now dim Forwards room.new.tail.items }
 {
-    // For the proof alone: tells the limits of the instance.
+    // For the proof alone: states the limits of the instance.
     let _count = instance.len();
     let head = room.head.as_mut_slice();
     let tail = room.tail.as_mut_slice();
@@ -91,7 +91,7 @@ fn write_boxes(instance: &Instance, lines: &mut StepList, boxes: &[u32]) -> Resu
     requires { AreBoxes instance.now boxes.now }
     ensures { OnOk result (lines.new ≡ lines.old ++ box_lines boxes.now) }
 {
-    // For the proof alone: tells the limits of the instance.
+    // For the proof alone: states the limits of the instance.
     let _count = instance.len();
     for v in boxes {
         write_line(lines, Step::On { box_no: *v + 1 })?;
@@ -114,7 +114,7 @@ fn write_chain(
         ++ PlainChain (suc dim) (length before.now) (length after.now)
         ∷ (box_lines before.now ++ box_lines after.now)) }
 {
-    // For the proof alone: tells the limits of the instance.
+    // For the proof alone: states the limits of the instance.
     let _count = instance.len();
     let step = Step::Chain {
         dim: dim + 1,
@@ -167,7 +167,7 @@ fn take_chain(
     ensures sought { OnOk result (IsSought instance.now state.old state.new
         lines.old lines.new e (λ rule. IsChainRule rule)) }
 {
-    // For the proof alone: tells the limits of the instance.
+    // For the proof alone: states the limits of the instance.
     let _count = instance.len();
     weigh_chains(instance, state, e.dim, room);
     let head = room.head.as_slice()[e.u as usize];

@@ -82,7 +82,7 @@ fn enter_node(instance: &Instance, walk: &mut Closings) -> Result<Option<Node>, 
     let Some(node) = walk.waiting.pop() else {
         return Ok(None);
     };
-    // For the proof alone: tells the limits of the instance.
+    // For the proof alone: states the limits of the instance.
     let _count = instance.len();
     walk.trace.leave(node.depth)?;
     walk.trace.enter()?;
@@ -182,7 +182,7 @@ fn split(instance: &Instance, walk: &mut Closings, near: Node, far: Node) -> Res
     requires far { IsChild instance.now walk.old far }
     ensures { OnOk result (IsTracked instance.now walk.new) }
 {
-    // For the proof alone: tells the limits of the instance.
+    // For the proof alone: states the limits of the instance.
     let _count = instance.len();
     push_node(&mut walk.waiting, far)?;
     push_node(&mut walk.waiting, near)

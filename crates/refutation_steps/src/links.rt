@@ -105,7 +105,7 @@ fn link_pair(
         ((x : ℕ) → x < box_count instance.now
         → IsLinkedAt (box_count instance.now) (excludes state.old.trail) dim u v x) changed) }
 {
-    // For the proof alone: tells the limits of the state.
+    // For the proof alone: states the limits of the state.
     let _boxes = state.boxes();
     if u == v {
         return Ok(false);

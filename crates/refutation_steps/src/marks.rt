@@ -96,7 +96,7 @@ fn change(bits: &mut [u8], at: usize, more: u8, less: u8) {
 }
 
 impl Marks {
-    /// Empty sets, for so many dimensions and boxes.
+    /// Empty sets, for `dims` dimensions and `boxes` boxes.
     pub fn new(alloc: Global, dims: u32, boxes: u32) -> Result<Marks, NoMemory> {
         let boxes = boxes as usize;
         let count = (dims as usize).wrapping_mul(boxes).wrapping_mul(boxes);

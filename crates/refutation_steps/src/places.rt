@@ -18,7 +18,7 @@ pub(crate) fn is_there(state: &EdgeState, e: Exclusion) -> bool
     requires { IsEdgeAmong state.now.dims state.now.boxes e.dim e.u e.v }
     ensures { result ≡ excludes state.now.trail e.dim e.u e.v e.rel }
 {
-    // For the proof alone: tells the limits of the state.
+    // For the proof alone: states the limits of the state.
     let _boxes = state.boxes();
     !state.row(e.dim, e.u, e.rel).has(e.v)
 }

@@ -2,9 +2,9 @@
 use crate::facts::{Facts, composed};
 use crate::marks::{AFTER, BEFORE, Marked, Marks, OVERLAP, Spot, at_place, has_all};
 
-/// An instance of a rule that excludes at a place. The boxes of a chain stand in a list from a
-/// position on: so many of the chain that ends in u, from u backwards, then so many of the one that
-/// starts in v.
+/// An instance of a rule that excludes at a place. The boxes of a chain stand in a list from the
+/// position `from` on: `first` boxes of the chain that ends in u, from u backwards, then `second`
+/// boxes of the one that starts in v.
 #[derive(Clone, Copy)]
 pub enum Reason {
     Pair {

@@ -98,7 +98,7 @@ pub(crate) fn replay_on(
     ensures replayed { IfOk result (λ stopped. IsReplayed instance.now state.old state.new
         lines.old lines.new closed.now.trail stopped) }
 {
-    // For the proof alone: tells the limits of the state.
+    // For the proof alone: states the limits of the state.
     let _sizes = closed.dims();
     let mut at = from;
     while let Some(change) = closed.change_after(at) {

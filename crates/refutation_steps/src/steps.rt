@@ -47,7 +47,7 @@ pub(crate) fn step_pair(
     ensures { OnOk result (IsStepped instance.now state.old state.new
         lines.old lines.new (Pair dim u v)) }
 {
-    // For the proof alone: tells the limits of the state.
+    // For the proof alone: states the limits of the state.
     let _sizes = state.dims();
     let taken = take_pair(instance, state, dim, u, v);
     let step = Step::Pair {
@@ -74,7 +74,7 @@ pub(crate) fn step_apart(
     ensures { OnOk result (IsStepped instance.now state.old state.new
         lines.old lines.new (Apart dim u v)) }
 {
-    // For the proof alone: tells the limits of the state.
+    // For the proof alone: states the limits of the state.
     let _sizes = state.dims();
     let taken = take_apart(instance, state, dim, u, v);
     let step = Step::Apart {
@@ -102,7 +102,7 @@ pub(crate) fn step_triple(
     ensures { OnOk result (IsStepped instance.now state.old state.new
         lines.old lines.new (Triple dim u v x)) }
 {
-    // For the proof alone: tells the limits of the state.
+    // For the proof alone: states the limits of the state.
     let _sizes = state.dims();
     let taken = take_triple(instance, state, dim, u, v, x);
     let step = Step::Triple {
@@ -131,7 +131,7 @@ pub(crate) fn step_compose(
     ensures { OnOk result (IsStepped instance.now state.old state.new
         lines.old lines.new (Compose dim u v x)) }
 {
-    // For the proof alone: tells the limits of the state.
+    // For the proof alone: states the limits of the state.
     let _sizes = state.dims();
     let taken = take_compose(state, dim, u, v, x);
     let step = Step::Compose {
@@ -161,7 +161,7 @@ pub(crate) fn step_cycle(
     ensures { OnOk result (IsStepped instance.now state.old state.new
         lines.old lines.new (Cycle dim a b c d)) }
 {
-    // For the proof alone: tells the limits of the state.
+    // For the proof alone: states the limits of the state.
     let _sizes = state.dims();
     let taken = take_cycle(state, dim, a, b, c, d);
     let step = Step::Cycle {
@@ -192,7 +192,7 @@ pub(crate) fn step_order(
     ensures { OnOk result (IsStepped instance.now state.old state.new
         lines.old lines.new (Order dim a b c d)) }
 {
-    // For the proof alone: tells the limits of the state.
+    // For the proof alone: states the limits of the state.
     let _sizes = state.dims();
     let taken = take_order(state, dim, a, b, c, d);
     let step = Step::Order {

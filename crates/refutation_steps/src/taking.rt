@@ -26,7 +26,7 @@ fn take_rules(instance: &Instance, walk: &mut Walk, closed: Option<Mark>) -> Res
     let Some(place) = empty_place(&walk.state) else {
         unreachable!();
     };
-    // For the proof alone: tells the limits of the state.
+    // For the proof alone: states the limits of the state.
     let _sizes = walk.state.dims();
     let clash = Step::Clash {
         dim: place.dim + 1,

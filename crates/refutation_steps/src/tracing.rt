@@ -119,8 +119,8 @@ fn pop_change(trace: &mut Trace) -> Option<Marked> {
     Some(change)
 }
 
-// Takes the newest exclusion back where it is at this place and behind so many. Answers it, read in
-// the direction of the place, and nothing where it is another.
+// Takes the newest exclusion back where it is at this place and behind the first `begun` ones.
+// Answers it, read in the direction of the place, and nothing where it is another.
 fn pop_with(trace: &mut Trace, begun: usize, at: Spot) -> u8 {
     if trace.trail.len() <= begun {
         return 0;
@@ -219,7 +219,8 @@ fn explain_at(trace: &mut Trace, at: Spot, came: u8) -> Result<(), NoMemory> {
     push_found(trace, first, wanted)
 }
 
-// Traces back the newest exclusions at one place, of those that a closing added behind so many.
+// Traces back the newest exclusions at one place, of those that a closing added behind the first
+// `begun` ones.
 fn trace_back(trace: &mut Trace, begun: usize) -> Result<(), NoMemory> {
     if trace.trail.len() <= begun {
         return Ok(());
@@ -314,7 +315,7 @@ impl Trace {
         self.open.len()
     }
 
-    /// Leaves nodes until so many are open.
+    /// Leaves nodes until `depth` are open.
     pub fn leave(&mut self, depth: usize) -> Result<(), NoMemory> {
         for _ in depth..self.open.len() {
             if let Some(node) = self.open.pop() {

@@ -221,7 +221,7 @@ fn ordered(rel: Rel) -> Exclusion
     }
 }
 
-// What a token is answered where so many of the two orders of the boxes are excluded from the
+// The answer to a token where `count` of the two orders of the boxes are excluded from the
 // start.
 fn under(
     alloc: Global,

@@ -7,7 +7,7 @@ use refutation_check::{FeedVerdict, Refuter};
 use std::alloc::Global;
 use std::test::Fail;
 
-/// The instance of these boxes, of which each stands so many times.
+/// The instance of these boxes, each with the number of its copies.
 pub(crate) fn instance_of(
     alloc: Global,
     container: &[u32],
@@ -34,7 +34,7 @@ pub(crate) fn drawn(random: &mut u32, most: u32) -> u32 {
     ((*random >> 16) % most).saturating_add(1)
 }
 
-/// The instance of so many drawn boxes in a square or a cube.
+/// The instance of `count` drawn boxes in a square or a cube.
 pub(crate) fn drawn_instance(
     alloc: Global,
     random: &mut u32,

@@ -100,7 +100,7 @@ fn checked_sets(alloc: Global, instance: &Instance, random: &mut u32) -> Result<
     Ok(Some(found))
 }
 
-// The same for the sets of so many drawn boxes in two, three or four dimensions.
+// The same for the sets of nine drawn boxes in `dims` dimensions.
 fn drawn_is_checked(alloc: Global, random: &mut u32, dims: u32) -> Result<Option<u32>, Fail> {
     let instance = drawn_instance(alloc, random, dims, 9, 8, 10)?;
     checked_sets(alloc, &instance, random)

@@ -7,8 +7,8 @@ use refutation_check::{FeedVerdict, RefuseCode, Refuter};
 use std::alloc::Global;
 use std::test::Fail;
 
-// Whether the refutation of the search is accepted, with so many tokens at least; or none was
-// found.
+// Whether the refutation of the search is accepted, with at least `least` tokens. `None` means that
+// none was found.
 fn is_checked(
     alloc: Global,
     instance: &Instance,

@@ -15,7 +15,7 @@ BoundsSides instance i most = (v : ℕ) → v < box_count instance → side inst
 abbrev pub NoRule : Rule → Type 0
 NoRule rule = ⊥
 
--- Which relations of u and x the compositions leave, of those that aren't left of u and v: told by
+-- Which relations of u and x the compositions leave, of those that aren't left of u and v: given by
 -- what is left of u, v and of v, x.
 abbrev pub composed : Rel → (left row : Rel → Bool) → Bool
 composed Overlap left row = (row Overlap || (row After && left Before)) || (row Before && left After)

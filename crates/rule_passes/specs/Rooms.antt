@@ -14,11 +14,11 @@ pub record HaveEach (d m : ℕ) (f : PlainLevels → ℕ) (kept : List PlainLeve
   pub count : length kept ≡ d
   pub each : (k : ℕ) (other : PlainLevels) → k < d → f (slice_index_or kept k other) ≡ m
 
--- for each dimension room for the weights of so many boxes
+-- for each of `d` dimensions room for the weights of `n` boxes
 abbrev pub AreKept : ℕ → ℕ → List PlainLevels → Type 0
 AreKept d n kept = HaveEach d n (λ l. l.boxes) kept
 
--- for each dimension memory for the weights of so many boxes
+-- for each of `d` dimensions memory for the weights of `most` boxes
 abbrev pub AreMade : ℕ → ℕ → List PlainLevels → Type 0
 AreMade d most kept = HaveEach d most (λ l. l.most) kept
 

@@ -68,7 +68,7 @@ pub(crate) fn beyond_compositions<const K: usize>(
         → ((s : PlainRel) × (excludes state.now.trail dim v x s ≡ false))
         → IsCovered instance.now (excludes state.now.trail) state.now.trail (Compose dim u v x) }
 {
-    // For the proof alone: tells the limits of the state.
+    // For the proof alone: states the limits of the state.
     let _boxes = state.boxes();
     let is_overlap = left.has(Rel::Overlap);
     let is_before = left.has(Rel::Before);
@@ -88,7 +88,7 @@ pub(crate) fn beyond_compositions<const K: usize>(
 }
 
 // The boxes to which the compositions leave a relation of the first box that isn't left of the
-// first and the second: told by the mask of these and the rows of the second.
+// first and the second, by the mask of these and the rows of the second.
 #[inline(always)]
 fn composed_row<const K: usize>(
     left: Mask,

@@ -48,7 +48,7 @@ fn shut_from<const K: usize>(
 }
 
 // CHAIN at all pairs, with the weights of chains of the state. It stops at the first box with an empty
-// mask, which the result tells. Inlined, it cost 0.2 % more instructions.
+// mask, which the result shows. Inlined, it cost 0.2 % more instructions.
 #[inline(never)]
 fn shut_all<const K: usize>(
     instance: &Instance,

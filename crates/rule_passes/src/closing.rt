@@ -40,7 +40,7 @@ fn finish_each<const K: usize>(kept: &mut [ChainWeightCache<K>])
 
 /// Goes along what changed after a position of the list, then over CHAIN in the dimensions where
 /// two boxes became ordered, and again along what that changed, until nothing is left or a mask is
-/// empty, which the answer tells.
+/// empty, which the answer shows.
 pub(crate) fn run_to_fixpoint<const K: usize>(
     instance: &Instance,
     state: &mut EdgeState,
@@ -84,7 +84,7 @@ pub(crate) fn run_to_fixpoint<const K: usize>(
         let Some(more) = drain_worklist(instance, state, all, next, rest, guess) else {
             return true;
         };
-        // For the proof alone: tells the limits of the state.
+        // For the proof alone: states the limits of the state.
         let _sizes = state.dims();
         dirty = more;
     }

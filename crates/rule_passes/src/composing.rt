@@ -1,4 +1,4 @@
-//! COMPOSE at what a changed edge tells, by whole rows.
+//! COMPOSE for a changed edge, by whole rows.
 ghost use Rattle.std.specs.Prelude.{◌≡◌, ◌<◌, ◌⊎◌, ℕ, true, false, not, IsTrue};
 ghost use Rattle.packing_terms.specs.declared.Rel.{Rel as PlainRel};
 ghost use Rattle.packing_terms.specs.declared.Rel.TheVariants.{Overlap, Before, After};

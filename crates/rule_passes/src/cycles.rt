@@ -1,4 +1,4 @@
-//! CYCLE at what a changed edge tells.
+//! CYCLE for a changed edge.
 //!
 //! Each call answers whether a mask is empty, and stops there.
 ghost use Rattle.std.specs.Prelude.{◌≡◌, ◌<◌, ◌⊎◌, ℕ, true, false, nat_lt};

@@ -2,7 +2,7 @@
 //! of its boxes.
 //!
 //! Mostly nothing follows. So the tests come first, in a copy for each mask, and what is to be done
-//! stands aside.
+//! is in functions that aren't inlined.
 ghost use Rattle.std.specs.Prelude.{◌≡◌, ◌<◌, ◌⊎◌, ℕ, not, nat_lt};
 ghost use Rattle.packing_terms.specs.declared.Rel.{Rel as PlainRel};
 ghost use Rattle.packing_terms.specs.Relations.{mirror};
@@ -86,8 +86,8 @@ fn spread_chorded<const K: usize>(
     spread_both(instance, state, all, dim, u, v, left, turned, stale)
 }
 
-// The instances other than those of COMPOSE and TRIPLE. Mostly nothing follows: what may follow stands
-// aside.
+// The instances other than those of COMPOSE and TRIPLE. Mostly nothing follows: what may follow is
+// in functions that aren't inlined.
 #[inline(always)]
 fn propagate_if_any<const K: usize>(
     instance: &Instance,
@@ -254,7 +254,7 @@ fn but(rel: Rel) -> Mask
 
 /// All instances that read the mask of an edge, which is given, up to those that add the same.
 ///
-/// In each copy the mask is a constant, so what it tells off falls away when the copy is compiled.
+/// In each copy the mask is a constant, so what it rules out falls away when the copy is compiled.
 /// Looking through a change, neither the full mask nor the empty one comes.
 #[inline(always)]
 pub(crate) fn spread<const K: usize>(

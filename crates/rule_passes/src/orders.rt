@@ -1,4 +1,4 @@
-//! ORDER at what a changed edge tells: each call answers whether a mask is empty, and stops there.
+//! ORDER for a changed edge: each call answers whether a mask is empty, and stops there.
 ghost use Rattle.std.specs.Prelude.{◌≡◌, ◌<◌, ℕ, true, false, nat_lt};
 ghost use Rattle.packing_terms.specs.Packing.{box_count};
 ghost use Rattle.packing_terms.specs.Exclusions.{excludes};

@@ -1,5 +1,5 @@
-//! APART at what a changed edge tells: it is applied in one dimension after another, and the answer
-//! tells whether a mask is empty; it stops there.
+//! APART for a changed edge: it is applied in one dimension after another, and the answer says
+//! whether a mask is empty; it stops there.
 ghost use Rattle.std.specs.Prelude.{◌≡◌, ◌≢◌, ◌<◌, ℕ, true, false};
 ghost use Rattle.packing_terms.specs.Packing.{dims, box_count};
 ghost use Rattle.packing_terms.specs.Exclusions.{excludes, IsJoined};

@@ -12,14 +12,14 @@ use edge_state::EdgeState;
 use orientation_rules::apply_pair;
 
 // PAIR at two boxes, and where it changes a mask APART at the same two: so two boxes that are too
-// long together in all dimensions are told at once.
+// long together in all dimensions are found at once.
 fn pair_at(instance: &Instance, state: &mut EdgeState, dim: u32, u: u32, v: u32) -> bool
     requires sizes { IsSized instance.now state.old dim }
     requires u { u < box_count instance.now }
     requires v { v < box_count instance.now }
     ensures { HasApplied instance.now state.old state.new result (λ rule. rule ≡ Pair dim u v) }
 {
-    // For the proof alone: tells the limits of the state.
+    // For the proof alone: states the limits of the state.
     let _boxes = state.boxes();
     if u == v {
         return false;

@@ -173,7 +173,7 @@ impl Propagator {
             (IsStable instance.now (excludes state.new.trail)
             × HasNoEmptyMask instance.now (excludes state.new.trail)) }
     {
-        // For the proof alone: tells the limits of the state.
+        // For the proof alone: states the limits of the state.
         let _sizes = state.dims();
         if self.most <= 64 {
             let kept = self.narrow_kept.as_mut_slice();
@@ -184,7 +184,7 @@ impl Propagator {
     }
 
     /// Excludes what follows from the exclusions of the state, by the seven rules, until no rule
-    /// adds anything or a mask is empty, which the answer tells.
+    /// adds anything or a mask is empty, which the answer shows.
     ///
     /// The new exclusions come on top of the old ones, so `undo` gives the masks back. Room,
     /// instance and state have the same sizes. It takes no memory.
@@ -200,7 +200,7 @@ impl Propagator {
             (IsStable instance.now (excludes state.new.trail)
             × HasNoEmptyMask instance.now (excludes state.new.trail)) }
     {
-        // For the proof alone: tells the limits of the state.
+        // For the proof alone: states the limits of the state.
         let _sizes = state.dims();
         self.guess.restart(instance);
         if pass_pairs(instance, state) {

@@ -1,4 +1,4 @@
-//! TRIPLE at what a changed edge tells.
+//! TRIPLE for a changed edge.
 //!
 //! Each call answers whether a mask is empty, and stops there.
 ghost use Rattle.std.specs.Prelude.{◌≡◌, ◌<◌, ◌≤◌, ◌+◌, ◌⊎◌, ℕ, true, false};

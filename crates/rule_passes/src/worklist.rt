@@ -111,7 +111,7 @@ pub(crate) fn drain_worklist<const K: usize>(
     let mut next = closed;
     let mut chains = dirty;
     while let Some(change) = state.change_after(next) {
-        // For the proof alone: tells the limits of the state.
+        // For the proof alone: states the limits of the state.
         let _sizes = state.dims();
         let left = state.mask_in::<K>(change.dim, change.u, change.v);
         if is_empty_left(instance, state, change.dim, change.u, change.v, left) {

@@ -24,7 +24,7 @@ applied_sound instance places rule old new changed sides packing applied respect
     go _ _ _ _ (inr (mirror_added r is p c)) =
         follows_sound instance places (excludes old) sides packing respects _ _ _ _ (mirrored rule r is p c)
 
--- in every instance with so many dimensions and boxes
+-- in every instance with `d` dimensions and `n` boxes
 pub applied_sound_among : (d n : ℕ) (rule : Rule) (old new : List Exclusion) (changed : Bool)
     → IsAppliedAmong d n rule old new changed
     → KeepsPackingsAmong d n old new

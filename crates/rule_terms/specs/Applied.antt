@@ -27,8 +27,8 @@ pub record Extends (instance : PlainInstance) (old new : List Exclusion) : Type 
   pub kept : IsSubset (excludes old) (excludes new)
   pub fewer : open_count (dims instance) (box_count instance) new ≤ open_count (dims instance) (box_count instance) old
 
--- exclusions came on top: some, so that fewer relations are open, where it is told that something
--- changed, and else none
+-- exclusions came on top: where `changed` is true some, so that fewer relations are open, and else
+-- none
 pub record IsRuleStep (instance : PlainInstance) (old new : List Exclusion) (changed : Bool) : Type 0 where
   pub extends : Extends instance old new
   pub shrinks : IsTrue changed → open_count (dims instance) (box_count instance) new < open_count (dims instance)
@@ -42,7 +42,7 @@ pub record IsApplied (instance : PlainInstance) (rule : Rule) (old new : List Ex
   pub exact : (i u v : ℕ) (r : Rel)
       → IsTrue (excludes new i u v r) ↔ (IsTrue (excludes old i u v r) ⊎ Adds instance (excludes old) rule i u v r)
 
--- the same in every instance with so many dimensions and boxes, whatever their sides are
+-- the same in every instance with `d` dimensions and `n` boxes, whatever their sides are
 abbrev pub IsAppliedAmong : ℕ → ℕ → Rule → List Exclusion → List Exclusion → Bool → Type 0
 IsAppliedAmong d n rule old new changed =
     (instance : PlainInstance) → dims instance ≡ d → box_count instance ≡ n → IsApplied instance rule old new changed
@@ -53,7 +53,7 @@ KeepsPackings instance old new =
     (places : List ℕ) → HasPositiveSides instance → IsPacking instance places → Respects instance places (excludes old)
     → Respects instance places (excludes new)
 
--- the same of every instance with so many dimensions and boxes
+-- the same of every instance with `d` dimensions and `n` boxes
 abbrev pub KeepsPackingsAmong : ℕ → ℕ → List Exclusion → List Exclusion → Type 0
 KeepsPackingsAmong d n old new =
     (instance : PlainInstance) → dims instance ≡ d → box_count instance ≡ n → KeepsPackings instance old new

@@ -16,7 +16,7 @@ use Rattle.packing_terms.specs.Sums.{below}
 abbrev pub rels : List Rel
 rels = Overlap ∷ Before ∷ After ∷ []
 
--- all lists of distinct boxes of those given, of at most so many
+-- all lists of distinct boxes of those given, with at most a given number of them
 abbrev pub chains : ℕ → List ℕ → List (List ℕ)
 chains zero vs = [] ∷ []
 chains (suc k) vs = [] ∷ flat_map (λ v. map (λ c. v ∷ c) (chains k (filter (λ u. not (u == v)) vs))) vs
@@ -92,7 +92,7 @@ additions instance es =
     || follows instance (excludes es) e.dim e.v e.u (mirror e.rel)))
     (all_exclusions (dims instance) (box_count instance))
 
--- so many rounds, or until one adds nothing
+-- a given number of rounds, or fewer where one adds nothing
 abbrev pub rounds : PlainInstance → ℕ → List Exclusion → List Exclusion
 rounds instance zero es = es
 rounds instance (suc k) es = elim (additions instance es) [ [] ↦ es | e ∷ more ↦ rounds instance k ((e ∷ more) ++ es) ]

@@ -25,7 +25,7 @@ pub record IsHeaviestHeadAmong (instance : PlainInstance) (keep : List ℕ) (X :
   pub most : (others : List ℕ) → IsChainAmong instance keep X i (others ++ v ∷ [])
       → weight_among instance keep i (others ++ v ∷ []) ≤ k
 
--- the like for chains that start there
+-- the same for chains that start in that box
 pub record IsHeaviestTailAmong (instance : PlainInstance) (keep : List ℕ) (X : Exclusions) (i v k : ℕ) : Type 0 where
   pub after : List ℕ
   pub is_chain : IsChainAmong instance keep X i (v ∷ after)

@@ -5,7 +5,7 @@ use Rattle.packing_terms.specs.declared.Exclusion.{Exclusion}
 use Rattle.packing_terms.specs.Exclusions.{excludes, IsEdgeAmong}
 use Rattle.rule_terms.specs.Rounds.{all_exclusions}
 
--- how many relations are open, among so many dimensions and boxes
+-- how many relations are open, among `d` dimensions and `n` boxes
 abbrev pub open_count : ℕ → ℕ → List Exclusion → ℕ
 open_count d n es = length (filter (λ e. not (excludes es e.dim e.u e.v e.rel)) (all_exclusions d n))
 

@@ -83,7 +83,7 @@ one_set (x ∷ xs) [] r s h = absurd (true≢false (sym (own_first x xs) ∙ h x
 one_set (x ∷ xs) (y ∷ ys) r s h =
     same_first x y xs ys r s h (cases_lt x y) (cases_lt y x) (one_set xs ys (rising_tail x xs r) (rising_tail y ys s))
 
--- an entry with the verdict on a set that has its boxes, told under its budget, is right
+-- an entry whose outcome is that of a set with its boxes under its budget is right
 pub verdict_made : (instance : PlainInstance) (scales : Bool) (boxes keep : List ℕ) (budget : ℕ)
     (outcome : PlainOutcome)
     → HasBoxes boxes keep → IsBoxSet instance keep
@@ -124,7 +124,7 @@ none_past budget = go (ltb budget 0)
     go true = refl
     go false = refl
 
--- an outcome that was found under one budget is told under another one that it serves
+-- an outcome that was found under one budget gives the outcome under another one that it serves
 pub retold_told : (found budget : ℕ) (v : Verdict) (r : PlainOutcome)
     → r ≡ under_budget found v → Serves r found budget
     → retold budget r ≡ under_budget budget v
@@ -142,7 +142,7 @@ retold_told found budget v Past e serves = go (ltb found (count_of v)) refl e
         none_past budget ∙ sym (ap (λ b. cond b Past (Decided v)) (lt-ltb budget (count_of v) (omega (arith, l, serves))))
     go false f h = absurd (subst is_past h refl)
 
--- an outcome that was found under a greater budget or the same, told under this one
+-- the outcome under this budget, from one that was found under a greater budget or the same
 pub told_within : (found budget : ℕ) (v : Verdict) (r s : PlainOutcome)
     → budget ≤ found → r ≡ under_budget found v → s ≡ retold budget r → s ≡ under_budget budget v
 told_within found budget v r s l e h = h ∙ retold_told found budget v r e (go r)
@@ -151,7 +151,7 @@ told_within found budget v r s l e h = h ∙ retold_told found budget v r e (go 
     go (Decided w) = tt
     go Past = l
 
--- what is recalled of a set is its verdict, told under the budget
+-- what is recalled of a set is its outcome under the budget
 pub recalled : (instance : PlainInstance) (scales : Bool) (entries : List PlainEntry) (boxes keep : List ℕ) (budget : ℕ)
     (r : PlainOutcome)
     → AreVerdicts instance scales entries → HasBoxes boxes keep → IsBoxSet instance keep
@@ -163,7 +163,7 @@ recalled instance scales entries boxes keep budget r right has set found =
     found.told
     ∙ retold_told found.entry.budget budget (set_verdict instance scales keep) found.entry.outcome own found.serves
 
--- what is told of a set that is kept as refuted is its verdict
+-- what is recalled of a set that is kept as refuted is its verdict
 pub recalled_no : (instance : PlainInstance) (scales : Bool) (entries : List PlainEntry) (boxes keep : List ℕ)
     (budget : ℕ) (bin : Option ℕ) (old new : List PlainToken) (found : Option ℕ)
     → AreVerdicts instance scales entries → HasBoxes boxes keep → IsBoxSet instance keep
@@ -182,7 +182,7 @@ recalled_no instance scales entries boxes keep budget bin old new (Some cost) ri
       appended = e.refuted.appended;
     }
 
--- a verdict that is told is right
+-- the outcome of a set under a budget is right
 pub told_right : (instance : PlainInstance) (scales : Bool) (keep : List ℕ) (budget : ℕ) (r : PlainOutcome)
     → IsInternalInstance instance → IsBoxSet instance keep
     → 1 ≤ length keep → r ≡ under_budget budget (set_verdict instance scales keep) → IsRight (subset instance keep) [] r
@@ -194,7 +194,7 @@ told_right instance scales keep budget r limits set some e =
     go true = tt
     go false = class_tree_right (subset instance keep) (subset_within instance keep set some limits) [] tt scales
 
--- an outcome told under a budget
+-- an outcome under a budget: past where its count is greater, and else the same
 pub retold_past : (budget : ℕ) (r : PlainOutcome) → budget < plain_count r → Past ≡ retold budget r
 retold_past budget r l = sym (ap (λ b. cond b Past r) (lt-ltb budget (plain_count r) l))
 

@@ -1,4 +1,4 @@
--- Verdicts that are joined, and what is told of them.
+-- Verdicts that are joined, and their outcomes under budgets.
 use Rattle.std.proofs.Common.{◌≡◌, ℕ, ◌+◌, ◌<◌, ◌≤◌, ◌⊎◌, inl, inr, refl, sym, ap, subst, ◌∙◌, Bool, true, false, ltb}
 use Rattle.std.proofs.Common.{if◌then◌else◌, List, [], ◌++◌, append-nil}
 use Rattle.std.proofs.lemmas.Bool.{lt-ltb, true≢false, cases_lt}
@@ -21,7 +21,7 @@ pub advance_leaf : (ts us : List PlainToken) (c d : ℕ) (w : Verdict)
     → join (No ts c) (join (No us d) w) ≡ join (No (ts ++ us) (c + d)) w
 advance_leaf ts us c d w = sym (join_assoc (No ts c) (No us d) w)
 
--- a verdict that is told is within the budget, and past it is greater
+-- an outcome that is decided has the verdict itself, within the budget; where it is past, the count is greater
 pub record IsTold (budget : ℕ) (v w : Verdict) : Type 0 where
   pub same : v ≡ w
   pub within : count_of w ≤ budget
@@ -46,6 +46,6 @@ told_same budget v w e = go (ltb budget (count_of v)) refl e
             pick (inl l) = absurd (true≢false (sym (lt-ltb budget (count_of v) l) ∙ f))
             pick (inr l) = l
 
--- what is told in the end
+-- the outcome in the end
 pub finished : (cap : ℕ) (v whole : Verdict) → v ≡ whole → count_of v ≤ cap → Decided v ≡ under_budget cap whole
 finished cap v whole e l = sym (told_decided cap v l) ∙ ap (under_budget cap) e

@@ -40,17 +40,17 @@ plain_size (Decided (Yes numbers count)) = length numbers
 plain_size (Decided (No tokens count)) = length tokens
 plain_size Past = 0
 
--- an outcome that was found under one budget, told under a smaller one
+-- the outcome under a budget, from one that was found under a greater one
 abbrev pub retold : ℕ → PlainOutcome → PlainOutcome
 retold budget r = if nat_lt budget (plain_count r) then Past else r
 
--- an outcome that was found under a budget says what is told under another one: it is a verdict, or
+-- an outcome that was found under a budget gives the outcome under another one: it is a verdict, or
 -- the other budget isn't greater
 abbrev pub Serves : PlainOutcome → ℕ → ℕ → Type 0
 Serves (Decided v) found budget = ⊤
 Serves Past found budget = budget ≤ found
 
--- it is the outcome of an entry that has these boxes, told under a budget
+-- it is the outcome under this budget, from an entry that has these boxes
 pub record IsRecalled (entries : List PlainEntry) (boxes : List ℕ) (budget : ℕ) (r : PlainOutcome) : Type 0 where
   pub entry : PlainEntry
   pub kept : IsEntryOf entries boxes entry
@@ -66,7 +66,7 @@ pub record IsRefutedOutcome (outcome : PlainOutcome) (budget : ℕ) (bin : Optio
   pub within : cost ≤ budget
   pub appended : new ≡ old ++ SetRefuted bin ∷ tokens
 
--- the same where a count is told, and else the tokens are as before
+-- the same where a count is given, and else the tokens are as before
 abbrev pub IsToldOutcome :
     PlainOutcome → ℕ → Option ℕ → List PlainToken → List PlainToken → Option ℕ → Type 0
 IsToldOutcome outcome budget bin old new None = new ≡ old
@@ -79,7 +79,7 @@ pub record IsRefutedEntry (entries : List PlainEntry) (boxes : List ℕ) (budget
   pub kept : IsEntryOf entries boxes entry
   pub refuted : IsRefutedOutcome entry.outcome budget bin old new cost
 
--- the same where a count is told, and else the tokens are as before
+-- the same where a count is given, and else the tokens are as before
 abbrev pub IsRecalledNo :
     List PlainEntry → List ℕ → ℕ → Option ℕ → List PlainToken → List PlainToken → Option ℕ → Type 0
 IsRecalledNo entries boxes budget bin old new None = new ≡ old
@@ -93,7 +93,7 @@ IsPut old put e = (e ≡ put) ⊎ Contains old e
 abbrev pub IsCopied : List PlainEntry → List PlainEntry → PlainEntry → Type 0
 IsCopied other old e = Contains other e ⊎ Contains old e
 
--- the outcome of an entry is the verdict on each set that has its boxes, told under its budget
+-- the outcome of an entry is the one, under its budget, of each set that has its boxes
 pub record IsVerdict (instance : PlainInstance) (scales : Bool) (e : PlainEntry) : Type 0 where
   pub is : (keep : List ℕ) → IsBoxSet instance keep → HasBoxes e.boxes keep
       → e.outcome ≡ under_budget e.budget (set_verdict instance scales keep)
@@ -111,7 +111,7 @@ pub record IsNoVerdict (verdict : Verdict) (budget : ℕ) (bin : Option ℕ) (ol
   pub within : cost ≤ budget
   pub appended : new ≡ old ++ SetRefuted bin ∷ tokens
 
--- the same where a count is told, and else the tokens are as before
+-- the same where a count is given, and else the tokens are as before
 abbrev pub IsToldNo : Verdict → ℕ → Option ℕ → List PlainToken → List PlainToken → Option ℕ → Type 0
 IsToldNo verdict budget bin old new None = new ≡ old
 IsToldNo verdict budget bin old new (Some cost) = IsNoVerdict verdict budget bin old new cost

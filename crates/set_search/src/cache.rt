@@ -15,19 +15,20 @@ use std::alloc::Global;
 use std::marker::Model;
 use std::mem;
 
-// So many sets are kept at most, each at a place of its own.
+// At most `MAX_SETS` sets are kept, each at a place of its own.
 const MAX_SETS: usize = 65_536;
 
-// So many places there are at first, and eight times as many where half of them have a set: a run
-// of few sets touches little memory. A small memory has no more: it serves one worker, and all 64
-// together hold as many sets as a memory that they share.
+// The number of places at first. There are eight times as many where half of them have a set, so a
+// run of few sets touches little memory. A small memory has no more: it serves one worker, and all
+// 64 together hold as many sets as a memory that they share.
 const FIRST_PLACES: usize = 1_024;
 
-// A set stands at the place of its key, or at one of the next ones, so many in all. With one place
-// for each key, sets whose keys agree would drive one another out, at each level anew.
+// A set stands at the place of its key, or at one of the next ones, `PROBE_LIMIT` places in all.
+// With one place for each key, sets whose keys agree would drive one another out, at each level
+// anew.
 const PROBE_LIMIT: usize = 8;
 
-// So many numbers and tokens are kept at most for each place, 4,194,304 in all.
+// At most `KEPT_A_PLACE` numbers and tokens are kept for each place, 4,194,304 in all.
 const KEPT_A_PLACE: usize = 64;
 
 // A decided set: its outcome under a budget, which is past if its search was cut off there.

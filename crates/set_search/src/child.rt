@@ -56,7 +56,7 @@ impl<'a> SetSearch<'a> {
         if left == 0 {
             return Ok(Child::Past);
         }
-        // Most sets come again and are refuted: those are told without a list of their boxes.
+        // Most sets come again and are refuted: those need no list of their boxes.
         let key = self.key_with(keep, v);
         let source = self.locate(alloc, &key);
         if let Some(cost) = self.told_refuted(alloc, source, &key, left - 1, bin, tokens)? {

@@ -39,7 +39,7 @@ pub(crate) fn is_cut_off(outcome: &Outcome) -> bool {
     }
 }
 
-// Whether an outcome that was found under a budget says what is told under another one: a search
+// Whether an outcome that was found under one budget gives the outcome under another one: a search
 // that was cut off says nothing of greater budgets.
 pub(crate) fn serves(outcome: &Outcome, found_under: u64, budget: u64) -> bool
     ensures { result ≡ true → Serves (plain_outcome outcome.now) found_under budget }
@@ -51,7 +51,7 @@ pub(crate) fn serves(outcome: &Outcome, found_under: u64, budget: u64) -> bool
     }
 }
 
-// An outcome that was found under a greater budget or the same, told under this one.
+// The outcome under this budget, from one that was found under a greater budget or the same.
 pub(crate) fn told_under(outcome: Outcome, budget: u64) -> Outcome
     ensures { plain_outcome result ≡ retold budget (plain_outcome outcome) }
 {

@@ -29,12 +29,12 @@ use std::sync::Arc;
 /// The greatest budget.
 pub const MAX_BUDGET: u64 = 10_000_000;
 
-// A task decides a set under so many times the branchings that it has left, since its children come
-// to the set again, and would begin it anew.
+// A task decides a set under `PROBE_LIMIT` times the branchings that it has left, since its
+// children come to the set again, and would begin it anew.
 const PROBE_LIMIT: u64 = 8;
 
-// But under no more than so many, if it has less left. Of the refuted sets of two knapsacks of 30
-// and 36 boxes, one of 5,000 has more.
+// But under no more than `MOST_REACH`, if it has less left. Of the refuted sets of two knapsacks of
+// 30 and 36 boxes, one of 5,000 has more.
 const MOST_REACH: u64 = 8_192;
 
 // Where a set is kept: among the sets of a search, among those that it shares, or nowhere.
@@ -51,8 +51,8 @@ pub(crate) enum Source {
 /// decisions; so the instance of a set and its state are taken once, for all of them, and the room
 /// of a closing once for each number of boxes, up to the greatest that came. And most of its sets
 /// come again and again, in one tree for bins, and in the trees of many values: what was found of a
-/// set is kept, and told again without a search, at most 65,536 sets with at most 4,194,304 numbers
-/// and tokens. Sets for which there is no memory aren't kept.
+/// set is kept, and returned again without a search, at most 65,536 sets with at most 4,194,304
+/// numbers and tokens. Sets for which there is no memory aren't kept.
 ///
 /// Of several workers, each takes a search for a task (`take`) and gives it back (`give`). It waits
 /// in the pool of this search, which outlives the task. What any of these searches has decided, all
@@ -216,7 +216,7 @@ impl<'a> SetSearch<'a> {
         ensures outcome { IfOk result (λ r. plain_outcome r
             ≡ under_budget budget (set_verdict self.old.instance self.old.scales keep.now)) }
     {
-        // For the proof alone: tells the limits of the instance.
+        // For the proof alone: states the limits of the instance.
         let _limits = self.whole.len();
         let boxes = keep.len() as u32;
         ensure_closers(alloc, self.whole.dims(), boxes, &mut self.closers)?;
@@ -311,7 +311,7 @@ impl<'a> SetSearch<'a> {
         requires { IsBoxSet self.now.instance (insert_box v keep.now) }
         ensures { HasBoxes result.boxes (insert_box v keep.now) }
     {
-        // For the proof alone: tells the limits of the instance.
+        // For the proof alone: states the limits of the instance.
         let _limits = self.whole.len();
         SetKey::of(keep).with(v)
     }
@@ -354,7 +354,7 @@ impl<'a> SetSearch<'a> {
         ensures right { IfOk result (λ r.
             IsRight (subset self.old.instance keep.now) [] (plain_outcome r)) }
     {
-        // For the proof alone: tells the limits of the instance.
+        // For the proof alone: states the limits of the instance.
         let _limits = self.whole.len();
         let key = SetKey::of(keep);
         let source = self.locate(alloc, &key);
@@ -379,7 +379,7 @@ impl<'a> SetSearch<'a> {
         ensures right { IfOk result (λ r.
             IsRight (subset self.old.instance keep.now) [] (plain_outcome r)) }
     {
-        // For the proof alone: tells the limits of the instance.
+        // For the proof alone: states the limits of the instance.
         let _limits = self.whole.len();
         if let Some(outcome) = self.recall(alloc, source, key, budget)? {
             return Ok(outcome);

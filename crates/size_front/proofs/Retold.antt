@@ -12,7 +12,7 @@ use Rattle.answer_terms.specs.Walks.{PlainFront, levels_from, spent_front, whole
 use Rattle.answer_terms.specs.Walks.{width_run, height_run, rest_by, round_found, round_by_heights, round_by_widths}
 use Rattle.answer_terms.specs.Walks.{round_by}
 
--- the tokens of a level that is told again
+-- `t` with the tokens `ts`, where its refuted level is `r`
 abbrev pub retold : ℕ → List PlainToken → PlainReached → PlainReached
 retold r ts t = record t { tokens = (if t.refuted == r then ts else t.tokens) }
 

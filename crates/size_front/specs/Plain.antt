@@ -26,7 +26,7 @@ plain_front f = record {
 abbrev pub joined : Front → PlainFront → PlainFront
 joined f rest = front_after (map plain_corner f.corners.items) (map plain_point f.points.items) rest
 
--- the rest of the walk from where it stands, of so many rounds
+-- the rest of the walk from where it stands, of `rounds` rounds
 abbrev pub rest_from : PlainInstance → ℕ → Bool → ℕ → WalkState → PlainFront
 rest_from instance budget scales rounds s =
     walk_on (size_answer instance budget scales) (written_container instance 0) rounds s.height s.refuted

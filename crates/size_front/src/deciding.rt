@@ -73,7 +73,7 @@ pub(crate) fn decide_size<R: Threads + Wait + Sync, G: Gate + Sync>(
     ensures answer { IfOk result (λ r. plain_level r
         ≡ size_answer instance.now settings.now.budget settings.now.scales width height) }
 {
-    // For the proof alone: tells the limits of the instance.
+    // For the proof alone: states the limits of the instance.
     let _limits = instance.len();
     let sized = with_container(alloc, instance, width, height)?;
     let outcome = decide_sized(rt, alloc, &sized, decider, settings, gate)?;

@@ -39,7 +39,7 @@ pub(crate) fn run_heights<R: Threads + Wait + Sync, G: Gate + Sync>(
         ≡ height_run (size_answer instance.now settings.now.budget settings.now.scales)
         (written_container instance.now 0) width height places.items) }
 {
-    // For the proof alone: tells the limits of the instance.
+    // For the proof alone: states the limits of the instance.
     let _limits = instance.len();
     let tokens = CompactTokens::new(alloc);
     let mut reached = Reached::starting(0, tokens, u64::from(height), places);

@@ -135,7 +135,7 @@ fn lower<R: Threads + Wait + Sync, G: Gate + Sync>(
     ensures round { IfOk result (λ next. IsRound instance.now settings.now.budget
         settings.now.scales front.old stand front.new next) }
 {
-    // For the proof alone: tells the limits of the instance.
+    // For the proof alone: states the limits of the instance.
     let _limits = instance.len();
     let refuted = widths.refuted as u32;
     let width = widths.placed as u32;
@@ -232,7 +232,7 @@ pub(crate) fn one_round<R: Threads + Wait + Sync, G: Gate + Sync>(
     ensures round { IfOk result (λ next. IsRound instance.now settings.now.budget
         settings.now.scales front.old stand front.new next) }
 {
-    // For the proof alone: tells the limits of the instance.
+    // For the proof alone: states the limits of the instance.
     let _limits = instance.len();
     let most = instance.written_container(0);
     let widest = decide_size(

@@ -79,7 +79,7 @@ pub fn least_sizes<R: Threads + Wait + Sync, G: Gate + Sync>(
         * (box_count instance.now - 1) / 2) ≤ settings.now.budget + 1
         → IfOk result (λ f. f.complete ≡ true) }
 {
-    // For the proof alone: tells the limits of the instance.
+    // For the proof alone: states the limits of the instance.
     let _limits = instance.len();
     walk_along(rt, alloc, instance, settings, gate)
 }

@@ -40,7 +40,7 @@ pub(crate) fn run_widths<R: Threads + Wait + Sync, G: Gate + Sync>(
         ≡ width_run (size_answer instance.now settings.now.budget settings.now.scales)
         (written_container instance.now 0) height refuted [] places.items) }
 {
-    // For the proof alone: tells the limits of the instance.
+    // For the proof alone: states the limits of the instance.
     let _limits = instance.len();
     let most = instance.written_container(0);
     let tokens = CompactTokens::new(alloc);

@@ -11,7 +11,7 @@ use Rattle.reduced_levels.specs.Heights.{height_run_from, HasHeightPastBudgetFro
 use Rattle.strip_solver.specs.declared.strip.Strip.{Strip}
 use Rattle.strip_solver.specs.declared.strip.Strip.TheVariants.{Least, Between, NoneFits}
 
--- the answer tells where a run of heights ended
+-- the answer states where a run of heights ended
 abbrev pub Tells : PlainReached → Strip → Type 0
 Tells r (Least height places tokens) =
     r ≡ record {

@@ -82,7 +82,7 @@ pub(crate) fn decide_height<R: Threads + Wait + Sync, G: Gate + Sync>(
     ensures answer { IfOk result (λ r. plain_level r
         ≡ height_answer_from start.now instance.now settings.now.budget settings.now.scales height) }
 {
-    // For the proof alone: tells the limits of the instance.
+    // For the proof alone: states the limits of the instance.
     let _limits = instance.len();
     let tall = instance.with_last_side(alloc, height)?;
     let outcome = decide_tall(rt, alloc, &tall, start, decider, settings, gate)?;

@@ -47,7 +47,7 @@ fn bisect_heights<R: Threads + Wait + Sync, G: Gate + Sync>(
     ensures { IfOk result (λ r. plain_reached r
         ≡ height_run_from start.now instance.now settings.now.budget settings.now.scales) }
 {
-    // For the proof alone: tells the limits of the instance.
+    // For the proof alone: states the limits of the instance.
     let _limits = instance.len();
     let stack = stack_all(alloc, instance)?;
     let tokens = no_height(alloc, instance)?;
@@ -111,7 +111,7 @@ fn least_from<R: Threads + Wait + Sync, G: Gate + Sync>(
         * (box_count instance.now - 1) / 2) ≤ settings.now.budget + 1
         → IfOk result (λ s. IsFinal s) }
 {
-    // For the proof alone: tells the limits of the instance.
+    // For the proof alone: states the limits of the instance.
     let _limits = instance.len();
     match first_too_wide(instance) {
         Some((box_no, dim)) => Ok(Strip::NoneFits { box_no, dim }),
@@ -145,7 +145,7 @@ pub fn least_height<R: Threads + Wait + Sync, G: Gate + Sync>(
         * (box_count instance.now - 1) / 2) ≤ settings.now.budget + 1
         → IfOk result (λ s. IsFinal s) }
 {
-    // For the proof alone: tells the limits of the instance.
+    // For the proof alone: states the limits of the instance.
     let _limits = instance.len();
     least_from(rt, alloc, instance, &[], settings, gate)
 }
@@ -169,7 +169,7 @@ pub fn least_height_reduced<R: Threads + Wait + Sync, G: Gate + Sync>(
         * (box_count instance.now - 1) / 2) ≤ settings.now.budget + 1
         → IfOk result (λ s. IsFinal s) }
 {
-    // For the proof alone: tells the limits of the instance.
+    // For the proof alone: states the limits of the instance.
     let _limits = instance.len();
     let start = facts(alloc, instance)?;
     least_from(rt, alloc, instance, start.as_slice(), settings, gate)

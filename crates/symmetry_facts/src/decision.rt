@@ -40,7 +40,7 @@ pub fn decide_reduced<R: Threads + Wait + Sync, G: Gate + Sync>(
         * (box_count instance.now - 1) / 2) ≤ settings.now.budget + 1
         → IfOk result (λ r. IsYesOrNo (plain_outcome r)) }
 {
-    // For the proof alone: tells the limits of the instance.
+    // For the proof alone: states the limits of the instance.
     let _limits = instance.len();
     let start = facts(alloc, instance)?;
     let tree = ClassTree::starting(alloc, instance, start.as_slice(), settings.scales)?;

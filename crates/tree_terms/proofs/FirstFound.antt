@@ -133,7 +133,7 @@ module _ (instance : PlainInstance) where
       go None e none = refl
       go (Some p) e none = absurd (none (wide_box instance p.0 p.1 (first_found (dims instance - 1) p.0 p.1 e)))
 
-  -- a box that is too large can be told
+  -- whether some box is too large can be decided
   pub some_large : HasTooLargeBox instance ⊎ (¬ HasTooLargeBox instance)
   some_large = go (first_too_large_box instance) refl
     where

@@ -1,4 +1,4 @@
--- Paths: their parts, the outcome at a path, what is told there, and which paths are come to.
+-- Paths: their parts, the outcome at a path, what is reported there, and which paths are reached.
 use Rattle.std.proofs.Common.{◌≡◌, ℕ, suc, ◌<◌, ◌≤◌, ◌⊎◌, ◌↔◌, inl, inr, refl, sym, ◌∙◌, subst, ap, arith, Bool, true}
 use Rattle.std.proofs.Common.{false, List, [], ◌∷◌, ◌++◌, ltb, if◌then◌else◌, Option, Some, None, IsSome, append_assoc}
 use Rattle.std.proofs.lemmas.Bool.{true≢false, cases_Bool, ltb-true, lt-ltb, cases_lt}
@@ -30,7 +30,7 @@ pub past_own : (tree : SearchTree) (budget : ℕ) → budget ≤ max_budget → 
     → under_budget budget (outcome tree) ≡ Past
 past_own tree budget l m = let h = own_least tree in told_past budget (outcome tree) (omega (arith, l, m, h))
 
--- what is told of a split
+-- what is reported of a split
 abbrev own_told : PlainNode → ℕ
 own_told Leaf = 0
 own_told (Splits token own n) = own
@@ -141,7 +141,7 @@ module _ (tree : SearchTree) (path : List ℕ) (k : ℕ) where
       pick true h = refl
       pick false h = absurd (true≢false (sym h))
 
-  -- what leads on is a split that is told
+  -- what leads on is a node that is reported as a split
   leads : (node : SearchTree) → node_at (Some tree) path ≡ Some node → IsSome (child_at node k)
       → own_of node ≤ max_budget → LeadsTo tree path k
   leads (Settled ns own) e h l = absurd (true≢false (sym h))

@@ -1,4 +1,4 @@
--- What is told of a verdict under a budget.
+-- The outcome of a verdict under a budget.
 use Rattle.std.proofs.Common.{◌≡◌, ℕ, ◌<◌, ◌≤◌, ◌⊎◌, inl, inr, refl, arith, true, false, ltb}
 use Rattle.std.proofs.lemmas.Bool.{cases_Bool, lt-ltb, ltb-true}
 use Rattle.tree_terms.specs.Trees.{Verdict, Decided, Past, under_budget, count_of}

@@ -30,13 +30,13 @@ first_too_wide instance =
     find (λ p. nat_lt (container_side instance p.1) (side instance p.0 p.1))
     (flat_map (λ v. map (λ i. (v, i)) (below (dims instance - 1))) (below (box_count instance)))
 
--- the first tuple of the list that exceeds for so many copies, where scales are wanted and no box
+-- the first tuple of the list that exceeds for `copies` copies, where scales are wanted and no box
 -- is longer than the container
 abbrev pub exceeding_where : PlainInstance → ℕ → Bool → Option (ℕ × ℕ) → Option (List ScaleFn)
 exceeding_where instance copies true None = first_excess instance copies
 exceeding_where instance copies _ _ = None
 
--- the first exceeding tuple for so many copies, with or without scales
+-- the first exceeding tuple for `copies` copies, with or without scales
 abbrev pub first_exceeding : PlainInstance → ℕ → Bool → Option (List ScaleFn)
 first_exceeding instance copies scales = exceeding_where instance copies scales (first_too_large_box instance)
 

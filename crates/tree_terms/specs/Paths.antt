@@ -1,4 +1,4 @@
--- Nodes by their paths: what a node at a path stands for, what is told of it, and which paths a
+-- Nodes by their paths: what a node at a path stands for, what is reported of it, and which paths a
 -- search may come to.
 use Rattle.std.specs.Prelude.{ℕ, zero, suc, pred, ◌≤◌, ◌≡◌, List, [], ◌∷◌, ◌++◌, Option, Some, None, IsSome, nat_lt}
 use Rattle.std.specs.Prelude.{if◌then◌else◌, slice_index_or}
@@ -54,14 +54,14 @@ own_of (Settled numbers own) = own
 own_of (Refuted tokens own) = own
 own_of (Split token own n child) = own
 
--- a node as it is told: a leaf, or a split with its token, its own count and the number of its
+-- a node as it is reported: a leaf, or a split with its token, its own count and the number of its
 -- children
 pub data PlainNode : Type 0 where
   Leaf : PlainNode
   Splits : (token : PlainToken) (own children : ℕ) → PlainNode
 
--- What is told of a node. A split whose own count is past every budget is told as a leaf: no budget
--- reaches its children.
+-- What is reported of a node. A split whose own count is past every budget is reported as a leaf: no
+-- budget reaches its children.
 abbrev pub node_view : SearchTree → PlainNode
 node_view (Settled numbers own) = Leaf
 node_view (Refuted tokens own) = Leaf
@@ -74,7 +74,7 @@ pub record IsReachable (tree : SearchTree) (path : List ℕ) : Type 0 where
       → node_at (Some tree) front ≡ Some node
       → own_of node ≤ max_budget
 
--- the path leads on to this child: its node is told as a split with more children
+-- the path leads on to child `k`: its node is reported as a split with more than `k` children
 pub record LeadsTo (tree : SearchTree) (path : List ℕ) (k : ℕ) : Type 0 where
   pub node : SearchTree
   pub there : node_at (Some tree) path ≡ Some node

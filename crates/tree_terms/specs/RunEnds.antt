@@ -33,7 +33,7 @@ pub record IsRisingEnd (first r : PlainReached) : Type 0 where
   pub high : r.placed ≤ first.placed
   pub beside : r.spent ≡ false → suc r.refuted ≡ r.placed
 
--- the like where the placed level is below
+-- the same where the placed level is below
 pub record IsFallingEnd (first r : PlainReached) : Type 0 where
   pub order : r.placed < r.refuted
   pub low : first.placed ≤ r.placed

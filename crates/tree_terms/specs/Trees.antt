@@ -1,10 +1,10 @@
--- Search trees, their verdicts and outcomes, and what is told of a verdict under a budget.
+-- Search trees, their verdicts and outcomes, and the outcome of a verdict under a budget.
 use Rattle.std.specs.Prelude.{ℕ, zero, suc, ◌+◌, List, [], ◌∷◌, ◌++◌, Option, Some, None, nat_lt, if◌then◌else◌}
 use Rattle.packing_terms.specs.Tokens.{PlainToken}
 
 -- A finite tree. Each node has its own count of branchings. A settled node has an answer, a refuted
--- one a refutation. A split has a token, and so many children, which are given by their index from
--- 0: only those that are visited are ever computed.
+-- one a refutation. A split has a token, and `children` children, which are given by their index
+-- from 0: only those that are visited are ever computed.
 pub data SearchTree : Type 0 where
   Settled : (numbers : List ℕ) (own : ℕ) → SearchTree
   Refuted : (tokens : List PlainToken) (own : ℕ) → SearchTree
@@ -27,7 +27,7 @@ join (Yes ns c) v = Yes ns c
 join (No ts c) (Yes ns d) = Yes ns (c + d)
 join (No ts c) (No us d) = No (ts ++ us) (c + d)
 
--- so many verdicts joined, from the given index on, read no further than the first yes
+-- a given number of verdicts joined, from the given index on, read no further than the first yes
 abbrev pub join_from : ℕ → ℕ → (ℕ → Verdict) → Verdict
 join_from k zero verdicts = no_tokens
 join_from k (suc more) verdicts =
@@ -44,7 +44,7 @@ abbrev pub count_of : Verdict → ℕ
 count_of (Yes ns c) = c
 count_of (No ts c) = c
 
--- What is told under a budget: the verdict, or that its count is past the budget.
+-- The outcome under a budget: the verdict, or that its count is past the budget.
 pub data PlainOutcome : Type 0 where
   Decided : (verdict : Verdict) → PlainOutcome
   Past : PlainOutcome

@@ -1,4 +1,4 @@
--- The children of a root that is told as a split may be explored.
+-- The children of a root whose view is a split may be explored.
 use Rattle.std.proofs.Common.{◌≡◌, ℕ, ◌<◌, refl, arith, [], ◌∷◌}
 use Rattle.packing_terms.specs.Tokens.{PlainToken}
 use Rattle.tree_terms.specs.Trees.{SearchTree}

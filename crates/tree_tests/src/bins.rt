@@ -105,7 +105,7 @@ fn is_same_as(
     Ok(tree.same(&BinTree::new(alloc, instance, bins, scales)?))
 }
 
-// Whether each of the others is told apart from a tree of the planks.
+// Whether the comparison of each of `OTHERS` with a tree of the planks is as listed.
 fn are_told_apart(alloc: Global, tree: &BinTree<'_>) -> Result<bool, Fail> {
     let instance = instance_of(alloc, &PLANKS)?;
     for (bins, scales, wanted) in OTHERS {

@@ -82,7 +82,7 @@ pub(crate) fn is_wanted(
     })
 }
 
-/// Whether a node is told as a split of this kind with this own count and so many children.
+/// Whether a node is a split of this kind with this own count and `width` children.
 pub(crate) fn is_split(node: &Node, kind: [u32; 2], count: u64, width: u32) -> bool {
     match node {
         Node::Split {

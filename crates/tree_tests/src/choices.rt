@@ -88,7 +88,7 @@ fn is_same_as(
     Ok(tree.same(&ChoiceTree::new(alloc, instance, value, scales)?))
 }
 
-// Whether each of the others is told apart from a tree of the three boxes.
+// Whether the comparison of each of `OTHERS` with a tree of the three boxes is as listed.
 fn are_told_apart(alloc: Global, tree: &ChoiceTree<'_>) -> Result<bool, Fail> {
     let instance = instance_of(alloc, &THREE)?;
     for (value, scales, wanted) in OTHERS {

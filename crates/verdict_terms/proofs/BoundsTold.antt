@@ -25,7 +25,7 @@ use Rattle.verdict_terms.proofs.Passed.{is_word_ok, ok_is}
 use Rattle.verdict_terms.proofs.Walk.{read_words}
 use Rattle.verdict_terms.proofs.TreesTold.{ended, coded_ok, refuting_told}
 
--- what is told of a line of such a tree is taken as the line
+-- what is reported of a line of such a tree is taken as the line
 pub bounded_token_cut : (d : ℕ) (word : List ℕ) (words : List (List ℕ)) → d ≤ 4
     → bounded_token_of d (take 21 word ∷ cut_rest words) ≡ bounded_token_of d (word ∷ words)
 bounded_token_cut d word words few =

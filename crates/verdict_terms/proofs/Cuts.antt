@@ -1,4 +1,4 @@
--- What is told of a line, cut to 12 words of 21 bytes, is taken as the line itself.
+-- What is reported of a line, cut to 12 words of 21 bytes, is taken as the line itself.
 use Rattle.std.proofs.Common.{◌≡◌, ℕ, ◌<◌, ◌≤◌, refl, ap, ap₂, ◌∙◌, arith, cond, ◌&&◌, ◌==◌, List, [], ◌∷◌, take, map}
 use Rattle.std.proofs.Common.{length, Ok, Err, codes}
 use Rattle.std.proofs.lemmas.Bool.{ne_eqb, and_right}

@@ -25,7 +25,7 @@ use Rattle.verdict_terms.proofs.Passed.{require_ok, is_word_ok, ok_is}
 use Rattle.verdict_terms.proofs.Walk.{read_words}
 use Rattle.verdict_terms.proofs.TreesTold.{ended, coded_ok, refuting_told}
 
--- what is told of a line of such a tree is taken as the line
+-- what is reported of a line of such a tree is taken as the line
 pub family_token_cut : (d : ℕ) (word : List ℕ) (words : List (List ℕ)) → d ≤ 4
     → family_token_of d (take 21 word ∷ cut_rest words) ≡ family_token_of d (word ∷ words)
 family_token_cut d word words few =

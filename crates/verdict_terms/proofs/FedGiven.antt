@@ -343,7 +343,7 @@ stage_well stage line well next e = go (is_blank line) e
     go true f = gives_well stage well next f
     go false f = filled_well stage line well next f
 
--- ---- what is told of a line is taken as the line
+-- ---- what is reported of a line is taken as the line
 
 -- the stage behind the numbers of a place line
 abbrev behind_numbers : Heading → PlainInstance → Claim → Refuted → List ℕ → List ℕ → Result Stage Reason
@@ -474,7 +474,7 @@ line_told stage false [] n m well = refl
 line_told stage true (w ∷ ws) n m well = filled_told stage true w ws n m well
 line_told stage false (w ∷ ws) n m well = filled_told stage false w ws n m well
 
--- ---- the lines that are told, one by one
+-- ---- the lines that are reported, one by one
 
 abbrev read_told : Stage → ℕ → List NumberedLine → Result Claim Refusal
 read_told stage n [] = document_at_end stage n

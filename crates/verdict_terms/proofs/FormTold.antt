@@ -314,7 +314,7 @@ claimed_later heading instance NoBins = tt
 claimed_later heading instance (GreatestValue v) = tt
 claimed_later heading instance (ValueBetween a b) = tt
 
--- a document of a claim that is the one told
+-- a document of a claim is one of an equal claim
 same_document : (heading : Heading) (text : List ℕ) (claim told : Claim) → claim ≡ told
     → IsHeadedDocument heading text claim → IsHeadedDocument heading text told
 same_document heading text claim told e d = subst (λ c. IsHeadedDocument heading text c) e d

@@ -52,7 +52,7 @@ numbers_are (word ∷ words) ns e h =
       numbers_are words b.0 b.1 k.1,
     )
 
--- a line of a first word, and so many numbers
+-- a line of the first word `key`, and of `count` numbers
 pub record NumbersLine (key : List ℕ) (count : ℕ) (words : List (List ℕ)) (ns : List ℕ) : Type 0 where
   pub numbers : List (List ℕ)
   pub are : words ≡ key ∷ numbers

@@ -1,4 +1,4 @@
--- Documents fed byte by byte: a lexer tells each line as it ends, and the line is taken at once.
+-- Documents fed byte by byte: a lexer reports each line as it ends, and the line is taken at once.
 -- Nothing of a line is kept.
 use Rattle.std.specs.Prelude.{ℕ, ◌≡◌, cond, List, [], ◌∷◌, ◌++◌, length, Result, Err}
 use Rattle.text_terms.specs.Lines.{text_lines, is_line_feed}

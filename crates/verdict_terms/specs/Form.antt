@@ -2,7 +2,7 @@
 -- the result line of each claim.
 --
 -- A claim is backed by places of what it says to be placed, and by tokens that refute what it says
--- to be refuted. So a document of this form shows its claim to whoever checks those two.
+-- to be refuted. So a document of this form shows its claim to anyone who checks those two.
 use Rattle.std.specs.Prelude.{ℕ, pred, suc, ◌-◌, ◌<◌, ◌≤◌, ◌≡◌, ◌↔◌, List, [], ◌∷◌, ◌++◌, length, Some, Ok, codes}
 use Rattle.packing_terms.specs.Packing.{PlainInstance, dims, box_count, IsPacking}
 use Rattle.packing_terms.specs.Goals.{with_last_side, subset, IsBinPacking, IsBoxSet, worth}

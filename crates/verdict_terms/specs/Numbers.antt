@@ -28,7 +28,7 @@ abbrev pub all_wanted : List (List ℕ) → Result (List ℕ) Reason
 all_wanted [] = Ok []
 all_wanted (word ∷ words) = wanted word >>= λ n. all_wanted words >>= λ ns. Ok (n ∷ ns)
 
--- a line of this first word, with so many numbers behind it
+-- a line of the first word `key`, with `count` numbers behind it
 abbrev pub numbers_line : List ℕ → ℕ → List (List ℕ) → Result (List ℕ) Reason
 numbers_line key count [] = Err form
 numbers_line key count (word ∷ words) =

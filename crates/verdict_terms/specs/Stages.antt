@@ -10,7 +10,7 @@
 --     d 1 1 2           Refuting: the open nodes of the tree; Exceeding: the `t` line of `none` is wanted;
 --                       Bounding: the open nodes of a bounded refutation, and `end` behind them
 --                       Gathering: the open nodes of a refutation with families, and `end` behind them
---     end               Ending: `end` is wanted, behind a tree (of so many dimensions) or behind places
+--     end               Ending: `end` is wanted, behind a tree (of a given number of dimensions) or behind places
 --                       Ended
 use Rattle.std.specs.Prelude.{ℕ, pred, suc, ◌*◌, ◌-◌, ◌&&◌, ◌==◌, not, cond, Bool, true, false, List, [], ◌∷◌, ◌++◌}
 use Rattle.std.specs.Prelude.{length, map, Option, Some, None, Result, Ok, Err, nat_le, nat_lt, slice_index, codes}
@@ -209,7 +209,7 @@ heading_line heading (key ∷ word ∷ []) =
     (job_headed heading word >>= λ job. Ok (Reading heading job no_parts)) (Err form)
 heading_line heading _ = Err form
 
--- a fault of an instance text is told by its code
+-- a fault of an instance text is reported by its code
 abbrev pub text_fault : {A : Type 0} → Result A ℕ → Result A Reason
 text_fault (Ok x) = Ok x
 text_fault (Err code) = Err (Text code)
@@ -249,7 +249,7 @@ abbrev pub placed : Heading → Claim → Refuted → Stage
 placed heading Fitting refuted = Ending Fitting None
 placed heading claim refuted = proving heading claim refuted
 
--- at the last place line, which the number of boxes tells, the places are tested
+-- at the last place line, which the number of boxes determines, the places are tested
 abbrev pub place_line : Heading → PlainInstance → Claim → Refuted → List ℕ → List (List ℕ) → Result Stage Reason
 place_line heading instance claim refuted places words =
     numbers_line (codes "place") (dims instance) words >>= λ ns. coordinates ns >>= λ xs.
@@ -332,8 +332,7 @@ gathering_line instance claim nodes words =
       | false ↦ gathering_token instance claim nodes (family_token_of (dims instance) words)
     ]
 
--- the `t` line of `none`: the box exceeds the container in one of the first dimensions, of which
--- there are so many
+-- the `t` line of `none`: the box exceeds the container in one of the first `m` dimensions
 abbrev pub exceeding_token : PlainInstance → Claim → ℕ → PlainToken → Result Stage Reason
 exceeding_token instance claim m (TooLarge v i) =
     require (names_box instance v && (nat_le 1 i && nat_le i m)) range (

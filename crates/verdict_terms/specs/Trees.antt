@@ -11,7 +11,7 @@ use Rattle.check_terms.specs.declared.answers.RefuseCode.{RefuseCode}
 use Rattle.check_terms.specs.Checking.{inner_after, bins_after, value_after}
 
 -- what is to be refuted: that the instance fits, by a tree that begins with these exclusions; that it
--- fits in so many bins; that it reaches a value
+-- fits in `bins` bins; that it reaches a value
 pub data Refuted : Type 0 where
   ToFit : (instance : PlainInstance) (start : List Exclusion) → Refuted
   ToFitIn : (instance : PlainInstance) (bins : ℕ) → Refuted

@@ -13,20 +13,20 @@ pub fn documents_have_form()
     ensures { DocumentsHaveForm }
 {}
 
-/// The claim of a document is true of the instance in it, whoever wrote the document.
+/// The claim of a document is true of the instance in it, no matter who wrote the document.
 pub fn documents_are_true()
     ensures { DocumentsAreTrue }
 {}
 
 /// The refusal of a line that a line feed ends is that of every text which begins with the bytes up
-/// to there. So whoever reads on needn't.
+/// to there. So the reader needn't read on.
 pub fn refusals_stay()
     ensures { RefusalsStay }
 {}
 
 /// The bytes of a document, fed from its start to a lexer with each line taken as it ends, give its
-/// verdict. A line is told by its first 12 words of at most 21 bytes, and nothing else of it is
-/// kept.
+/// verdict. A line is represented by its first 12 words of at most 21 bytes, and nothing else of it
+/// is kept.
 pub fn documents_are_fed()
     ensures { DocumentsAreFed }
 {}

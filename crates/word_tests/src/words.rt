@@ -4,7 +4,7 @@ use std::alloc::{AllocError, Global};
 use std::test::Fail;
 use text_terms::Settings;
 
-// The words of a command line, which are told with one space between two of them.
+// The words of a command line, which are given with one space between two of them.
 fn words_of(alloc: Global, line: &str) -> Result<Vec<String>, AllocError> {
     let mut words = Vec::new(alloc);
     for word in line.split(' ') {

@@ -66,7 +66,7 @@ get_front [] ys i l = absurd (omega (arith, l))
 get_front (x ∷ xs) ys zero l = refl
 get_front (x ∷ xs) ys (suc i) l = get_front xs ys i (omega (arith, l))
 
--- a stack with others below so many of its tasks
+-- a stack with `tasks` below its last `left` tasks
 abbrev with_tasks : List PlainTask → ℕ → List PlainTask → List PlainTask
 with_tasks stack left tasks = take (length stack - left) stack ++ (tasks ++ drop (length stack - left) stack)
 

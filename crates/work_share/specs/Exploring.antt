@@ -21,7 +21,7 @@ abbrev pub ExceedsCap : ℕ → ℕ → SearchTree → Type 0
 ExceedsCap budget depth node = (first_cap budget depth < budget) × (first_cap budget depth < count_of (outcome node))
 
 -- no split is called for: the first cap is the budget, or the count is within the first cap, or the
--- node is told as a leaf
+-- node is reported as a leaf
 abbrev pub StaysWhole : ℕ → ℕ → SearchTree → Type 0
 StaysWhole budget depth node =
     (budget ≤ first_cap budget depth) ⊎ ((count_of (outcome node) ≤ first_cap budget depth) ⊎ (node_view node ≡ Leaf))
@@ -46,7 +46,7 @@ PutsFound tree budget old number (Whole found) new =
 PutsFound tree budget old number (Pieces token own children) new =
     BoardStep tree budget old (AskSplit number) IsDone new ⊎ BoardStep tree budget old NoteShort IsDone new
 
--- A worker hands in what it found of a task, or that it was short of memory. What it found is put
+-- A worker submits what it found of a task, or that it was short of memory. What it found is put
 -- in exactly where the task is out, and else the board stays as it was.
 abbrev pub HandsIn : SearchTree → ℕ → BoardState → PlainTask → Result Found NoMemory → BoardState → Type 0
 HandsIn tree budget old task (Err e) new = BoardStep tree budget old NoteShort IsDone new

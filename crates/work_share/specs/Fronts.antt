@@ -66,7 +66,7 @@ abbrev pub StandsAt : ℕ → ℕ → Bool → List PlainEntry → Type 0
 StandsAt budget count true rest = EndsWithFirst budget count rest
 StandsAt budget count false rest = IsOpen rest
 
--- So many entries at the front are finished with no, and their count is within the budget.
+-- The first `len` entries are finished with no, and the sum of their counts is within the budget.
 pub record HasFront (budget : ℕ) (entries : List PlainEntry) (len count : ℕ) : Type 0 where
   pub inside : len ≤ length entries
   pub refuted : AreRefuted (take len entries)

@@ -11,7 +11,7 @@ behind_in (Some slot) = slot.behind
 abbrev pub next_of : List Slot → ℕ → Option ℕ
 next_of slots number = behind_in (slice_get slots number)
 
--- the numbers that the links lead through from one on, at most so many
+-- the numbers that the links lead through from `start` on, at most the given number of them
 abbrev pub follow : List Slot → ℕ → Option ℕ → List ℕ
 follow slots zero start = []
 follow slots (suc more) None = []
@@ -32,12 +32,12 @@ pub record IsLinked (slots : List Slot) (position : ℕ) (number : Option ℕ) :
   pub chain : IsChain slots (Some 0) (order_of slots)
   pub here : number ≡ slice_get (order_of slots) position
 
--- the link to the first of so many entries, numbered from this one on, or to what is behind them
+-- the link to the first of `more` entries, numbered from `number` on, or to what is behind them
 abbrev pub link_to : ℕ → ℕ → Option ℕ → Option ℕ
 link_to number more behind = if more == 0 then behind else Some number
 
--- the links of so many entries, numbered from this one on: each to the next, and the last to what
--- is behind them
+-- the links of a given number of entries, numbered from `number` on: each to the next, and the last
+-- to what is behind them
 abbrev pub links_from : ℕ → ℕ → Option ℕ → List (Option ℕ)
 links_from number zero behind = []
 links_from number (suc more) behind = link_to (suc number) more behind ∷ links_from (suc number) more behind

@@ -77,7 +77,7 @@ pub(crate) fn is_past(outcome: &Outcome) -> bool
     }
 }
 
-// Makes room for so many children, and for all events of their tasks.
+// Makes room for `children` children, and for all events of their tasks.
 fn reserve_for(
     slots: &mut Vec<Slot>,
     waiting: &mut Vec<Task>,
@@ -197,8 +197,8 @@ impl<'a, T: Tree> Board<'a, T> {
     /// Puts the children of a split in the place of its task: they wait, and are numbered from left
     /// to right, beginning with the number of entries that there were before.
     ///
-    /// The task is out, and the tree's node there is told as this split. `Err` is want of memory;
-    /// it hands the task back, and the board is as before.
+    /// The task is out, and the tree's node there is reported as this split. `Err` is want of
+    /// memory; it returns the task, and the board is as before.
     pub fn split(&mut self, task: Task, token: Token, own: u64, children: u32) -> Result<(), Task>
         requires out { out_path task.number self.old.state.entries ≡ Some task.path }
         requires told { IfSome (node_at (Some (T.shape self.old.tree)) task.path)

@@ -30,8 +30,8 @@ fn child_path(alloc: Global, path: &[u32], child: u32) -> Result<Vec<u32>, Alloc
     Ok(longer)
 }
 
-// The children of a split of the node at this path, so many, numbered from `first` on, in front of
-// the entry of the number `behind`, if there is one.
+// The `children` children of a split of the node at this path, numbered from `first` on, in front
+// of the entry of the number `behind`, if there is one.
 pub(crate) fn children_of(
     alloc: Global,
     path: &[u32],
@@ -67,8 +67,8 @@ pub(crate) fn children_of(
     })
 }
 
-// Puts a split, which is this state, and its children in the place of its task. So many tasks that
-// wait stand left of it. There is room for all.
+// Puts a split, which is this state, and its children in the place of its task. Of the tasks that
+// wait, `left` stand left of it. There is room for all.
 pub(crate) fn put_children(
     slots: &mut Vec<Slot>,
     waiting: &mut Vec<Task>,

@@ -8,8 +8,8 @@ ghost use Rattle.work_share.specs.Fronts.{piece_of, HasFrontTo, IsFront};
 use crate::link::next_of;
 use crate::slot::{Piece, Slot};
 
-// So many entries at the front are finished with no, with this count together, and whether the run
-// ends with the next; and the number of that one, if there is a next.
+// The first `len` entries are finished with no, and `count` is the sum of their counts. Also
+// whether the run ends with the next entry, and the number of that one, if there is a next.
 #[derive(Clone, Copy)]
 pub(crate) struct FinishedPrefix {
     pub len: usize,

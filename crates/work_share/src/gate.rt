@@ -1,4 +1,4 @@
-//! What is told of each task that a worker explores.
+//! What is called around the exploring of each task.
 
 /// What is called around the exploring of each task, outside the lock of the board, with the number
 /// of the task. No answer depends on it: a test uses it to see that tasks are explored at the same

@@ -4,7 +4,7 @@ ghost use Rattle.work_share.specs.Links.{link_to, next_of, with_link};
 
 use crate::slot::Slot;
 
-// The link to the first of so many entries, numbered from this one on, or to what is behind them.
+// The link to the first of `more` entries, numbered from `number` on, or to what is behind them.
 pub(crate) fn link_to(number: usize, more: usize, behind: Option<usize>) -> Option<usize>
     ensures { result ≡ link_to number more behind }
 {

@@ -51,7 +51,7 @@ fn put_found<T: Tree>(board: &mut Board<'_, T>, task: Task, found: Found)
     }
 }
 
-// Hands in what a worker found of a task, or that it was short of memory. Nothing is known of the
+// Submits what a worker found of a task, or that it was short of memory. Nothing is known of the
 // board that the worker finds: where it isn't for the worker's tree and budget, or the task isn't
 // out, what was found is dropped.
 fn submit<T: Tree>(
@@ -134,7 +134,7 @@ fn next_task<R: Wait, T: Tree>(
     None
 }
 
-// Takes the lock and hands in what was found. Answers whether those that wait have a reason to look
+// Takes the lock and submits what was found. Answers whether those that wait have a reason to look
 // again: tasks may have been added, or nothing is left to do.
 fn submit_and_wake<R: Wait, T: Tree>(
     rt: &R,
@@ -152,7 +152,7 @@ fn submit_and_wake<R: Wait, T: Tree>(
     has_pieces || board.is_over()
 }
 
-// A worker: it takes tasks, explores them outside the lock, and hands in what it found, until there
+// A worker: it takes tasks, explores them outside the lock, and submits what it found, until there
 // is no further task for it.
 fn work<R: Wait, T: Tree, G: Gate>(
     rt: &R,
@@ -173,7 +173,7 @@ fn work<R: Wait, T: Tree, G: Gate>(
     }
 }
 
-// Explores the root of a new board, which no other thread has, and hands in what was found.
+// Explores the root of a new board, which no other thread has, and submits what was found.
 fn explore_root<T: Tree, G: Gate>(
     alloc: Global,
     tree: &T,
@@ -187,7 +187,7 @@ fn explore_root<T: Tree, G: Gate>(
     }
 }
 
-// Works on a board by so many threads, and gives it back.
+// Works on a board by the workers of the settings, and returns it.
 fn work_together<'a, R: Threads + Wait + Sync, T: Tree + Sync, G: Gate + Sync>(
     rt: &R,
     alloc: Global,

@@ -12,8 +12,8 @@ use std::alloc::Global;
 /// A node of a search tree: a leaf, or a split with its token, its own count and the number of its
 /// children.
 ///
-/// A split whose own count is greater than 10,000,000 is told as a leaf, because no budget reaches
-/// its children.
+/// A split whose own count is greater than 10,000,000 is reported as a leaf, because no budget
+/// reaches its children.
 #[derive(Drop)]
 pub enum Node {
     Leaf,
