@@ -10,9 +10,9 @@ use Rattle.packing_terms.specs.Packing.{PlainInstance}
 use Rattle.packing_terms.specs.Tokens.{PlainToken}
 use Rattle.packing_terms.specs.Tokens.PlainToken.{TooLarge}
 use Rattle.text_terms.specs.Spelling.{spaced, lines_text, instance_text}
-use Rattle.document_terms.specs.Claims.{result_words}
-use Rattle.family_terms.specs.FamilyRefutation.{FamilyToken as PlainFamily, Plain}
-use Rattle.family_terms.specs.FamilyLines.{family_token_words, family_token_line, family_token_text}
+use Rattle.text_terms.specs.Claims.{result_words}
+use Rattle.verdict_terms.specs.FamilyRefutation.{FamilyToken as PlainFamily, Plain}
+use Rattle.verdict_terms.specs.FamilyLines.{family_token_words, family_token_line, family_token_text}
 use Rattle.family_tokens.specs.declared.token.FamilyToken.{FamilyToken}
 use Rattle.family_tokens.specs.Plain.{plain_family, plain_family_tokens}
 use Rattle.proof_tree.specs.Lines.{token_line, token_text}

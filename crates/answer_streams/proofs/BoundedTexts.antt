@@ -9,9 +9,9 @@ use Rattle.std.proofs.lemmas.List.Concat.{flat_map-append}
 use Rattle.packing_terms.specs.Packing.{PlainInstance}
 use Rattle.packing_terms.specs.Tokens.{PlainToken}
 use Rattle.text_terms.specs.Spelling.{spaced, lines_text, instance_text}
-use Rattle.document_terms.specs.Claims.{result_words}
-use Rattle.bounded_terms.specs.BoundedRefutation.{BoundedToken as PlainBounded, Plain}
-use Rattle.bounded_terms.specs.BoundedLines.{bounded_token_words, bounded_token_line, bounded_token_text}
+use Rattle.text_terms.specs.Claims.{result_words}
+use Rattle.verdict_terms.specs.BoundedRefutation.{BoundedToken as PlainBounded, Plain}
+use Rattle.verdict_terms.specs.BoundedLines.{bounded_token_words, bounded_token_line, bounded_token_text}
 use Rattle.bounded_tokens.specs.declared.token.BoundedToken.{BoundedToken}
 use Rattle.bounded_tokens.specs.Plain.{plain_bounded, plain_bounded_tokens}
 use Rattle.proof_tree.specs.Lines.{token_line, token_text}

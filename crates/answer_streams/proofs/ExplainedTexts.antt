@@ -4,8 +4,8 @@ use Rattle.std.proofs.Common.{get_or}
 use Rattle.std.proofs.lemmas.List.{take_more, take_all, map_push, flat_map_more}
 use Rattle.packing_terms.specs.Packing.{PlainInstance}
 use Rattle.text_terms.specs.Spelling.{spaced, instance_text, lines_text}
-use Rattle.explained_terms.specs.Steps.{PlainStep}
-use Rattle.explained_terms.specs.StepLines.{step_words}
+use Rattle.verdict_terms.specs.Steps.{PlainStep}
+use Rattle.verdict_terms.specs.StepLines.{step_words}
 use Rattle.answer_terms.specs.Explained.{step_lines, explained_text}
 use Rattle.line_proofs.specs.StepTexts.{step_line}
 use Rattle.answer_streams.proofs.Joined.{parts}

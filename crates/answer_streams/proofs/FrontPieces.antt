@@ -9,7 +9,7 @@ use Rattle.std.proofs.Math.Seq.{take-length}
 use Rattle.packing_terms.specs.Tokens.{PlainToken}
 use Rattle.text_terms.specs.Spelling.{spaced}
 use Rattle.proof_tree.specs.Lines.{token_line, token_text}
-use Rattle.front_terms.specs.Lines.{PlainLine, CornerAt, PointAt, PlaceAt, TreeToken}
+use Rattle.verdict_terms.specs.Lines.{PlainLine, CornerAt, PointAt, PlaceAt, TreeToken}
 use Rattle.answer_terms.specs.Walks.{PlainCorner, PlainPoint}
 use Rattle.answer_terms.specs.WalkLines.{corner_lines, point_lines, place_lines, step_lines, lines_of}
 use Rattle.answer_terms.specs.FrontTexts.{line_words}

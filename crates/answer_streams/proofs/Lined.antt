@@ -4,16 +4,16 @@ use Rattle.std.proofs.Common.{false, Ok, Err, codes}
 use Rattle.std.specs.List.{flat_map}
 use Rattle.std.specs.Fmt.{decimal}
 use Rattle.packing_terms.specs.Packing.{PlainInstance}
-use Rattle.document_terms.specs.declared.claim.Claim.{Claim}
-use Rattle.document_terms.specs.declared.claim.Claim.TheVariants.{Fitting, NotFitting, LeastHeight, HeightBetween}
-use Rattle.document_terms.specs.declared.claim.Claim.TheVariants.{NoHeight, LeastBins, BinsBetween, NoBins}
-use Rattle.document_terms.specs.declared.claim.Claim.TheVariants.{GreatestValue, ValueBetween}
+use Rattle.text_terms.specs.declared.claim.Claim.{Claim}
+use Rattle.text_terms.specs.declared.claim.Claim.TheVariants.{Fitting, NotFitting, LeastHeight, HeightBetween}
+use Rattle.text_terms.specs.declared.claim.Claim.TheVariants.{NoHeight, LeastBins, BinsBetween, NoBins}
+use Rattle.text_terms.specs.declared.claim.Claim.TheVariants.{GreatestValue, ValueBetween}
 use Rattle.verdict_terms.specs.declared.reason.Reason.{Reason}
 use Rattle.verdict_terms.specs.Reasons.{reason_words}
 use Rattle.verdict_terms.specs.Documents.{verdict_line, reduced_verdict_line, bounded_verdict_line}
-use Rattle.front_verdict_terms.specs.Verdicts.{front_verdict_line}
-use Rattle.explained_documents.specs.declared.reason.ExplainedReason.{ExplainedReason}
-use Rattle.explained_documents.specs.Documents.{explained_line, reason_words as explained_words_of}
+use Rattle.verdict_terms.specs.FrontDocumentVerdicts.{front_verdict_line}
+use Rattle.verdict_terms.specs.declared.explained_reason.ExplainedReason.{ExplainedReason}
+use Rattle.verdict_terms.specs.ExplainedDocumentDocuments.{explained_line, reason_words as explained_words_of}
 use Rattle.answer_streams.specs.Audited.{explained_end, verified_front}
 use Rattle.answer_streams.specs.Lines.{number_line, claim_text, reason_end}
 

@@ -3,25 +3,25 @@ use Rattle.std.specs.Prelude.{ℕ, ◌≡◌, Bool, true, false, List, [], ◌�
 use Rattle.std.specs.List.{flat_map}
 use Rattle.packing_terms.specs.Packing.{PlainInstance, dims}
 use Rattle.packing_terms.specs.Limits.{IsInstance}
-use Rattle.document_terms.specs.declared.claim.Claim.{Claim}
-use Rattle.document_terms.specs.Claims.{IsTrueOf}
+use Rattle.text_terms.specs.declared.claim.Claim.{Claim}
+use Rattle.text_terms.specs.Claims.{IsTrueOf}
 use Rattle.verdict_terms.specs.Documents.{Refusal, verdict_line, reduced_verdict, reduced_verdict_line}
 use Rattle.verdict_terms.specs.Documents.{bounded_verdict, bounded_verdict_line}
 use Rattle.verdict_terms.specs.Form.{IsReducedDocument, IsBoundedDocument}
-use Rattle.explained_terms.specs.declared.answers.AuditCode.{AuditCode}
-use Rattle.explained_documents.specs.declared.kind.DocumentKind.{DocumentKind}
-use Rattle.explained_documents.specs.declared.kind.DocumentKind.TheVariants.{Explained as OfExplained, Front as OfFront}
-use Rattle.explained_documents.specs.declared.kind.DocumentKind.TheVariants.{Reduced as OfReduced, Bounded as OfBounded}
-use Rattle.explained_documents.specs.declared.reason.ExplainedReason.{ExplainedReason}
-use Rattle.explained_documents.specs.Kinds.{document_kind}
-use Rattle.explained_documents.specs.Documents.{ExplainedRefusal, explained_verdict, explained_line, explained_status}
-use Rattle.explained_documents.specs.Documents.{code_word, reason_words, IsShown}
-use Rattle.front_verdict_terms.specs.Verdicts.{FrontRead, front_document_verdict, front_verdict_line}
-use Rattle.front_verdict_terms.specs.Verdicts.{front_verdict_status}
-use Rattle.explained_documents.specs.Form.{IsExplainedDocument}
-use Rattle.front_verdict_terms.specs.Points.{points_of_text}
-use Rattle.front_verdict_terms.specs.Form.{IsFrontDocument}
-use Rattle.front_verdict_terms.specs.Laws.{IsTrueFrontOf}
+use Rattle.verdict_terms.specs.declared.explained_answers.AuditCode.{AuditCode}
+use Rattle.verdict_terms.specs.declared.kind.DocumentKind.{DocumentKind}
+use Rattle.verdict_terms.specs.declared.kind.DocumentKind.TheVariants.{Explained as OfExplained, Front as OfFront}
+use Rattle.verdict_terms.specs.declared.kind.DocumentKind.TheVariants.{Reduced as OfReduced, Bounded as OfBounded}
+use Rattle.verdict_terms.specs.declared.explained_reason.ExplainedReason.{ExplainedReason}
+use Rattle.verdict_terms.specs.Kinds.{document_kind}
+use Rattle.verdict_terms.specs.ExplainedDocumentDocuments.{ExplainedRefusal, explained_verdict, explained_line, explained_status}
+use Rattle.verdict_terms.specs.ExplainedDocumentDocuments.{code_word, reason_words, IsShown}
+use Rattle.verdict_terms.specs.FrontDocumentVerdicts.{FrontRead, front_document_verdict, front_verdict_line}
+use Rattle.verdict_terms.specs.FrontDocumentVerdicts.{front_verdict_status}
+use Rattle.verdict_terms.specs.ExplainedDocumentForm.{IsExplainedDocument}
+use Rattle.verdict_terms.specs.Points.{points_of_text}
+use Rattle.verdict_terms.specs.FrontDocumentForm.{IsFrontDocument}
+use Rattle.verdict_terms.specs.FrontDocumentLaws.{IsTrueFrontOf}
 use Rattle.answer_streams.specs.Lines.{number_line}
 use Rattle.answer_streams.specs.Verdicts.{plain_verdict, verdict_status}
 use Rattle.answer_streams.specs.declared.audited.AuditedVerdict.{AuditedVerdict}

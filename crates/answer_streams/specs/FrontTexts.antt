@@ -3,7 +3,7 @@ use Rattle.std.specs.Prelude.{ℕ, zero, suc, ◌≡◌, ◌*◌, Bool, List, []
 use Rattle.std.specs.List.{AllByRecursion}
 use Rattle.std.specs.Fmt.{decimal}
 use Rattle.text_terms.specs.Spelling.{lines_text}
-use Rattle.front_terms.specs.Lines.{PlainLine}
+use Rattle.verdict_terms.specs.Lines.{PlainLine}
 use Rattle.answer_terms.specs.Walks.{PlainCorner, PlainPoint}
 use Rattle.answer_terms.specs.WalkLines.{corner_lines, point_lines}
 use Rattle.answer_terms.specs.FrontTexts.{line_words, front_word}

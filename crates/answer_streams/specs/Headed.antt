@@ -4,7 +4,7 @@ use Rattle.packing_terms.specs.declared.Exclusion.{Exclusion}
 use Rattle.packing_terms.specs.Packing.{PlainInstance}
 use Rattle.answer_streams.specs.declared.tree_start.TreeStart.{TreeStart}
 use Rattle.answer_streams.specs.declared.tree_start.TreeStart.TheVariants.{Nothing, Facts}
-use Rattle.symmetry_terms.specs.Facts.{symmetry_facts}
+use Rattle.packing_terms.specs.Facts.{symmetry_facts}
 use Rattle.answer_terms.specs.Answers.{Answer, answer_text}
 use Rattle.answer_terms.specs.Reduced.{reduced_text}
 

@@ -1,8 +1,8 @@
 -- What a job finds, as an answer of the definition.
 use Rattle.std.specs.Prelude.{ℕ, ◌+◌, ◌*◌, ◌<◌, ◌≡◌, List, length}
 use Rattle.packing_terms.specs.Packing.{PlainInstance, dims, box_count}
-use Rattle.document_terms.specs.declared.claim.Claim.TheVariants.{LeastHeight, HeightBetween, NoHeight, LeastBins}
-use Rattle.document_terms.specs.declared.claim.Claim.TheVariants.{BinsBetween, NoBins, GreatestValue, ValueBetween}
+use Rattle.text_terms.specs.declared.claim.Claim.TheVariants.{LeastHeight, HeightBetween, NoHeight, LeastBins}
+use Rattle.text_terms.specs.declared.claim.Claim.TheVariants.{BinsBetween, NoBins, GreatestValue, ValueBetween}
 use Rattle.answer_terms.specs.Answers.{Answer, answer_text, status_of}
 use Rattle.answer_terms.specs.Answers.Answer.{Claimed}
 use Rattle.answer_terms.specs.Reduced.{reduced_text, document_answer}

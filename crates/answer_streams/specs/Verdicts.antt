@@ -1,6 +1,6 @@
 -- The verdict on a document, and its status.
 use Rattle.std.specs.Prelude.{ℕ, Result, Ok, Err}
-use Rattle.document_terms.specs.declared.claim.Claim.{Claim}
+use Rattle.text_terms.specs.declared.claim.Claim.{Claim}
 use Rattle.verdict_terms.specs.Documents.{Refusal}
 use Rattle.answer_streams.specs.declared.verdict.Verdict.{Verdict}
 use Rattle.answer_streams.specs.declared.verdict.Verdict.TheVariants.{Verified, Refused}

@@ -1,16 +1,15 @@
 //! The verdict on a document that was audited, and its one line.
 ghost use Rattle.std.specs.Prelude.{◌≡◌};
 ghost use Rattle.pack_streams.specs.Writing.{Continues, Writes};
-ghost use Rattle.explained_documents.specs.Documents.{explained_line};
+ghost use Rattle.verdict_terms.specs.ExplainedDocumentDocuments.{explained_line};
 ghost use Rattle.answer_streams.specs.Audited.{explained_text, verdict_text, audit_code_end, explained_end, told_status};
 
 use crate::audited_fronts::{FrontAudited, write_front_verdict};
 use crate::documents::Written;
 use crate::streaming::Streamed;
 use crate::verdict::{BoundedVerdict, ReducedVerdict, Verdict, write_numbered};
-use explained_documents::ExplainedReason;
-use explained_terms::AuditCode;
 use pack_streams::{Sink, write_number, write_on};
+use verdict_terms::{AuditCode, ExplainedReason};
 
 /// The verdict on an explained document.
 #[derive(Clone, Copy, Debug, PartialEq, Eq)]

@@ -3,8 +3,8 @@ ghost use Rattle.std.specs.Prelude.{◌≡◌, ◌<◌, ◌++◌, ◌∷◌, [],
 ghost use Rattle.packing_terms.specs.Limits.{IsInstance};
 ghost use Rattle.pack_streams.specs.Writing.{Continues, Writes};
 ghost use Rattle.text_terms.specs.Spelling.{lines_text};
-ghost use Rattle.document_terms.specs.Claims.{result_words};
-ghost use Rattle.bounded_terms.specs.BoundedLines.{bounded_token_text};
+ghost use Rattle.text_terms.specs.Claims.{result_words};
+ghost use Rattle.verdict_terms.specs.BoundedLines.{bounded_token_text};
 ghost use Rattle.bounded_tokens.specs.Plain.{plain_bounded_tokens};
 ghost use Rattle.answer_terms.specs.BoundedAnswers.{bounded_claim, bounded_status, bounded_text};
 ghost use Rattle.bounded_choice.specs.Levels.{plain_levels, plain_proof};

@@ -7,7 +7,7 @@ ghost use Rattle.packing_terms.specs.Limits.{IsInstance};
 ghost use Rattle.pack_streams.specs.Writing.{Continues, Writes};
 ghost use Rattle.text_terms.specs.Spelling.{instance_text, lines_text};
 ghost use Rattle.packing_terms.specs.Sums.{below};
-ghost use Rattle.document_terms.specs.declared.claim.Claim.TheVariants.{Fitting, NotFitting};
+ghost use Rattle.text_terms.specs.declared.claim.Claim.TheVariants.{Fitting, NotFitting};
 ghost use Rattle.instance_text.specs.Writing.{after_spaces};
 ghost use Rattle.work_share.specs.Outcomes.{plain_outcome};
 ghost use Rattle.answer_terms.specs.Answers.{place_words, place_lines};

@@ -1,7 +1,7 @@
 //! The lines of a corner and of a point, in their one written spelling. Writing takes no memory.
 ghost use Rattle.std.specs.Prelude.{◌≡◌, ◌*◌, ◌∷◌, [], map, length};
 ghost use Rattle.pack_streams.specs.Writing.{Continues};
-ghost use Rattle.front_terms.specs.Lines.{CornerAt, PointAt, PlaceAt};
+ghost use Rattle.verdict_terms.specs.Lines.{CornerAt, PointAt, PlaceAt};
 ghost use Rattle.answer_terms.specs.WalkLines.{corner_lines, place_lines, point_lines};
 ghost use Rattle.size_front.specs.Plain.{plain_corner, plain_point};
 ghost use Rattle.answer_streams.specs.FrontTexts.{text_of, pair_text};

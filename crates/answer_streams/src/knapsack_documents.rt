@@ -4,7 +4,7 @@ ghost use Rattle.std.specs.Fmt.{decimal};
 ghost use Rattle.packing_terms.specs.Limits.{IsInstance};
 ghost use Rattle.pack_streams.specs.Writing.{Continues, Writes};
 ghost use Rattle.text_terms.specs.Spelling.{lines_text};
-ghost use Rattle.document_terms.specs.declared.claim.Claim.TheVariants.{GreatestValue, ValueBetween};
+ghost use Rattle.text_terms.specs.declared.claim.Claim.TheVariants.{GreatestValue, ValueBetween};
 ghost use Rattle.answer_terms.specs.Answers.{take_lines, proved_lines, answer_text};
 ghost use Rattle.answer_terms.specs.Answers.Answer.{Claimed};
 ghost use Rattle.answer_streams.specs.Solutions.{choice_found};

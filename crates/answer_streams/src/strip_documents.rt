@@ -5,7 +5,7 @@ ghost use Rattle.packing_terms.specs.Packing.{dims, box_count};
 ghost use Rattle.packing_terms.specs.Limits.{IsInstance};
 ghost use Rattle.pack_streams.specs.Writing.{Continues, Writes};
 ghost use Rattle.text_terms.specs.Spelling.{lines_text};
-ghost use Rattle.document_terms.specs.declared.claim.Claim.TheVariants.{LeastHeight, HeightBetween, NoHeight};
+ghost use Rattle.text_terms.specs.declared.claim.Claim.TheVariants.{LeastHeight, HeightBetween, NoHeight};
 ghost use Rattle.answer_terms.specs.Answers.{place_lines, proved_lines};
 ghost use Rattle.answer_terms.specs.Answers.Answer.{Claimed};
 ghost use Rattle.answer_terms.specs.Solved.{none_answer};

@@ -9,10 +9,9 @@ ghost use Rattle.answer_streams.specs.Lines.{number_line, pair_line, claim_text,
 
 use crate::documents::Written;
 use crate::streaming::Streamed;
-use check_terms::RefuseCode;
-use document_terms::Claim;
 use pack_streams::{Sink, write_number, write_on};
-use verdict_terms::Reason;
+use text_terms::Claim;
+use verdict_terms::{Reason, RefuseCode};
 
 /// The verdict on a document.
 #[derive(Clone, Copy, Debug, PartialEq, Eq)]

@@ -11,16 +11,16 @@ use Rattle.packing_terms.proofs.Internal.{written_internal}
 use Rattle.text_terms.specs.Spelling.{instance_words, lines_text}
 use Rattle.text_terms.proofs.Spelled.{AreWords, number_decimal}
 use Rattle.tree_terms.specs.OuterSearch.{AreTakenNumbers}
-use Rattle.document_terms.specs.declared.claim.SolvingJob.TheVariants.{Knapsack}
-use Rattle.document_terms.specs.declared.claim.Claim.{Claim}
-use Rattle.document_terms.specs.declared.claim.Claim.TheVariants.{GreatestValue, ValueBetween}
-use Rattle.document_terms.specs.Claims.{job_of, result_words, max_worth, IsTrueOf, IsValueBetween}
-use Rattle.bounded_terms.specs.BoundedRefutation.{BoundedToken, IsBoundedRefutation}
+use Rattle.text_terms.specs.declared.claim.SolvingJob.TheVariants.{Knapsack}
+use Rattle.text_terms.specs.declared.claim.Claim.{Claim}
+use Rattle.text_terms.specs.declared.claim.Claim.TheVariants.{GreatestValue, ValueBetween}
+use Rattle.text_terms.specs.Claims.{job_of, result_words, max_worth, IsTrueOf, IsValueBetween}
+use Rattle.verdict_terms.specs.BoundedRefutation.{BoundedToken, IsBoundedRefutation}
 use Rattle.verdict_terms.specs.declared.heading.Heading.TheVariants.{Bounded}
 use Rattle.verdict_terms.specs.Form.{IsResult, BacksUnder, MayName, AreProved, AreTaken, AreBounding}
 use Rattle.verdict_terms.proofs.FormGiven.{documents_have_form}
 use Rattle.verdict_terms.proofs.True.{documents_are_true}
-use Rattle.explained_documents.proofs.KindOf.{bounded_documents}
+use Rattle.verdict_terms.proofs.KindOf.{bounded_documents}
 use Rattle.answer_terms.specs.Answers.{Lines, document_lines, take_lines}
 use Rattle.answer_terms.proofs.Filled.{AreFilled, filled_append, clean_text, filled_text, instance_form}
 use Rattle.answer_terms.proofs.OwnWritten.{IsBounded, internal_bounded}

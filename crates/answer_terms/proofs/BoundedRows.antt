@@ -9,10 +9,10 @@ use Rattle.packing_terms.specs.Packing.{PlainInstance, PlainBox}
 use Rattle.packing_terms.specs.Tokens.PlainToken.{Choose, ValueShort}
 use Rattle.text_terms.specs.Lines.{number_of, same_bytes}
 use Rattle.text_terms.specs.Spelling.{lines_text}
-use Rattle.document_terms.specs.declared.claim.Claim.TheVariants.{GreatestValue, ValueBetween}
-use Rattle.document_terms.specs.TokenLines.{token_of}
-use Rattle.bounded_terms.specs.BoundedRefutation.{Plain, PricedOut}
-use Rattle.bounded_terms.specs.BoundedLines.{bounded_token_of}
+use Rattle.text_terms.specs.declared.claim.Claim.TheVariants.{GreatestValue, ValueBetween}
+use Rattle.text_terms.specs.TokenLines.{token_of}
+use Rattle.verdict_terms.specs.BoundedRefutation.{Plain, PricedOut}
+use Rattle.verdict_terms.specs.BoundedLines.{bounded_token_of}
 use Rattle.verdict_terms.specs.Documents.{headed_verdict, bounded_verdict}
 use Rattle.verdict_terms.specs.Results.{claim_of}
 use Rattle.answer_terms.specs.BoundedAnswers.{BoundedAnswer, value_claim, bounded_claim, bounded_status, bounded_lines}

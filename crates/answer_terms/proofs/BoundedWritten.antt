@@ -17,14 +17,14 @@ use Rattle.packing_terms.specs.OuterRefutation as plain
 use Rattle.text_terms.specs.Texts.{is_none}
 use Rattle.text_terms.proofs.Spelled.{AreWords}
 use Rattle.text_terms.proofs.Back.{word_decimal}
-use Rattle.document_terms.specs.TokenLines.{function_words, IsWrittenTuple}
-use Rattle.document_terms.proofs.TokensPlain.{token_plain}
-use Rattle.bounded_terms.specs.BoundedRefutation.{BoundedToken, Plain, PricedOut, Exchange, RefutesBounded}
-use Rattle.bounded_terms.specs.BoundedRefutation.{IsBoundedRefutation, none_left, by_value, by_price, by_exchange}
-use Rattle.bounded_terms.specs.BoundedRefutation.{by_set, by_box}
-use Rattle.bounded_terms.specs.BoundedLines.{bounded_token_words, HasBoundedLine}
-use Rattle.bounded_terms.specs.BoundedPaths.{stands_for}
-use Rattle.bounded_terms.proofs.BoundedBack.{bounded_tokens_are_read_back}
+use Rattle.text_terms.specs.TokenLines.{function_words, IsWrittenTuple}
+use Rattle.text_terms.proofs.TokensPlain.{token_plain}
+use Rattle.verdict_terms.specs.BoundedRefutation.{BoundedToken, Plain, PricedOut, Exchange, RefutesBounded}
+use Rattle.verdict_terms.specs.BoundedRefutation.{IsBoundedRefutation, none_left, by_value, by_price, by_exchange}
+use Rattle.verdict_terms.specs.BoundedRefutation.{by_set, by_box}
+use Rattle.verdict_terms.specs.BoundedLines.{bounded_token_words, HasBoundedLine}
+use Rattle.verdict_terms.specs.BoundedPaths.{stands_for}
+use Rattle.verdict_terms.proofs.BoundedBack.{bounded_tokens_are_read_back}
 use Rattle.verdict_terms.specs.Form.{AreBoundedLines}
 use Rattle.answer_terms.proofs.Filled.{AreFilled}
 use Rattle.answer_terms.proofs.OwnWritten.{HaveLines, IsBounded, tuple_written}

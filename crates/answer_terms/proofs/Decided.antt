@@ -9,14 +9,14 @@ use Rattle.tree_terms.specs.ClassTree.{class_tree}
 use Rattle.tree_terms.specs.Search.{IsRightUnder}
 use Rattle.tree_terms.specs.Levels.{level_by}
 use Rattle.tree_terms.proofs.Decisions.{class_tree_right}
-use Rattle.front_terms.specs.declared.answers.FrontVerdict.TheVariants.{Good}
-use Rattle.front_terms.specs.Fronts.{with_container, IsClaimed}
+use Rattle.verdict_terms.specs.declared.front_answers.FrontVerdict.TheVariants.{Good}
+use Rattle.verdict_terms.specs.Fronts.{with_container, IsClaimed}
 use Rattle.answer_terms.specs.Walks.{sizes, size_answer, front_walk}
-use Rattle.front_terms.specs.Verdicts.{front_verdict}
+use Rattle.verdict_terms.specs.Verdicts.{front_verdict}
 use Rattle.answer_terms.specs.WalkLines.{front_lines}
-use Rattle.front_terms.proofs.Sizes.{internal_size}
+use Rattle.verdict_terms.proofs.Sizes.{internal_size}
 use Rattle.answer_terms.proofs.Rounds.{IsRightSize, AreRightSizes}
-use Rattle.front_terms.proofs.Judged.{good_lines_are_true}
+use Rattle.verdict_terms.proofs.FrontJudged.{good_lines_are_true}
 use Rattle.answer_terms.proofs.WalkAccepted.{walk_verdict}
 use Rattle.answer_terms.proofs.Named.{front_names}
 

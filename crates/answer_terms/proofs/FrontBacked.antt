@@ -9,11 +9,11 @@ use Rattle.packing_terms.specs.Tokens.{PlainToken}
 use Rattle.packing_terms.specs.Refutation.{Refutes}
 use Rattle.packing_terms.proofs.Internal.{some_box}
 use Rattle.tree_terms.specs.Levels.{PlainLevel, PlacedBy, RefutedBy, SpentAt, PlainReached}
-use Rattle.front_terms.specs.Fronts.{with_container}
+use Rattle.verdict_terms.specs.Fronts.{with_container}
 use Rattle.answer_terms.specs.Walks.{PlainCorner, PlainPoint, PlainFront, corner_unless_empty, spent_front}
 use Rattle.answer_terms.specs.Walks.{width_run, height_run, rest_by, round_by_heights, round_by_widths, round_by}
 use Rattle.answer_terms.specs.Walks.{walk_on, walk}
-use Rattle.front_terms.proofs.Sizes.{refuted_size, sides_at}
+use Rattle.verdict_terms.proofs.Sizes.{refuted_size, sides_at}
 use Rattle.answer_terms.proofs.Rounds.{IsRightSize, AreRightSizes, IsNarrow, IsWidthEnd, IsHeightEnd, width_end}
 use Rattle.answer_terms.proofs.Rounds.{height_end}
 

@@ -28,26 +28,26 @@ use Rattle.answer_terms.proofs.Filled.{AreFilled, filled_append, filled_instance
 use Rattle.answer_terms.proofs.OwnWritten.{HaveLines, internal_bounded, refuted_written}
 use Rattle.answer_terms.proofs.OwnAccepted.{decimal_number}
 use Rattle.packing_terms.specs.Rising.{AreRising}
-use Rattle.front_terms.specs.declared.answers.FrontReason.{FrontReason}
-use Rattle.front_terms.specs.declared.answers.FrontVerdict.TheVariants.{Good, Short}
-use Rattle.front_terms.specs.Fronts.{with_container, IsLeastSize, IsClaimed}
-use Rattle.explained_documents.specs.declared.kind.DocumentKind.{DocumentKind}
-use Rattle.explained_documents.specs.declared.kind.DocumentKind.TheVariants.{Front as FrontKind}
-use Rattle.explained_documents.specs.Kinds.{kind_of_line, kind_of_lines}
+use Rattle.verdict_terms.specs.declared.front_answers.FrontReason.{FrontReason}
+use Rattle.verdict_terms.specs.declared.front_answers.FrontVerdict.TheVariants.{Good, Short}
+use Rattle.verdict_terms.specs.Fronts.{with_container, IsLeastSize, IsClaimed}
+use Rattle.verdict_terms.specs.declared.kind.DocumentKind.{DocumentKind}
+use Rattle.verdict_terms.specs.declared.kind.DocumentKind.TheVariants.{Front as FrontKind}
+use Rattle.verdict_terms.specs.Kinds.{kind_of_line, kind_of_lines}
 use Rattle.answer_terms.specs.FrontLaws.{OwnFrontsAreVerified, OwnFrontsAreFronts}
 use Rattle.answer_terms.specs.Walks.{PlainCorner, PlainPoint, PlainFront, sizes, front_walk, size_answer}
-use Rattle.front_terms.specs.Lines.{PlainLine, TreeToken, FrontStage, front_line}
-use Rattle.front_terms.specs.Lines.{front_lines_after, at_line, is_whole_front, announced}
-use Rattle.front_terms.specs.Verdicts.{verdict_by}
+use Rattle.verdict_terms.specs.Lines.{PlainLine, TreeToken, FrontStage, front_line}
+use Rattle.verdict_terms.specs.Lines.{front_lines_after, at_line, is_whole_front, announced}
+use Rattle.verdict_terms.specs.Verdicts.{verdict_by}
 use Rattle.answer_terms.specs.WalkLines.{corner_lines, place_lines, point_lines, step_lines, lines_of, front_lines}
-use Rattle.front_terms.proofs.Good.{AreGood}
-use Rattle.front_terms.proofs.Sizes.{internal_size}
+use Rattle.verdict_terms.proofs.Good.{AreGood}
+use Rattle.verdict_terms.proofs.Sizes.{internal_size}
 use Rattle.answer_terms.proofs.Decided.{highest_small, right_sizes, walks_are_good, walks_are_fronts}
 use Rattle.answer_terms.specs.FrontTexts.{line_words, front_result, front_document, front_text}
-use Rattle.front_verdict_terms.specs.Verdicts.{FrontClaim, most_points, DocumentStage, Opening, Reading}
-use Rattle.front_verdict_terms.specs.Verdicts.{Fronting, Ended, front_claim}
-use Rattle.front_verdict_terms.specs.Verdicts.{front_reading_line, front_filled_line}
-use Rattle.front_verdict_terms.specs.Verdicts.{front_stage_after, read_front_lines, front_document_verdict}
+use Rattle.verdict_terms.specs.FrontDocumentVerdicts.{FrontClaim, most_points, DocumentStage, Opening, Reading}
+use Rattle.verdict_terms.specs.FrontDocumentVerdicts.{Fronting, Ended, front_claim}
+use Rattle.verdict_terms.specs.FrontDocumentVerdicts.{front_reading_line, front_filled_line}
+use Rattle.verdict_terms.specs.FrontDocumentVerdicts.{front_stage_after, read_front_lines, front_document_verdict}
 use Rattle.answer_terms.proofs.FrontBacked.{all_append, IsBackedCorner, IsBackedPoint, front_backed}
 use Rattle.answer_terms.proofs.FrontWritten.{IsWritten, words_plain, line_read, not_end, in_range}
 

@@ -10,17 +10,17 @@ use Rattle.text_terms.specs.Lines.{same_bytes}
 use Rattle.text_terms.specs.Texts.{is_none}
 use Rattle.text_terms.proofs.Spelled.{AreWords}
 use Rattle.text_terms.proofs.Back.{word_decimal}
-use Rattle.document_terms.specs.TokenLines.{token_of, token_words, HasLine}
-use Rattle.document_terms.proofs.TokensBack.{tokens_are_read_back}
+use Rattle.text_terms.specs.TokenLines.{token_of, token_words, HasLine}
+use Rattle.text_terms.proofs.TokensBack.{tokens_are_read_back}
 use Rattle.verdict_terms.specs.Numbers.{max_coordinate, numbers_line}
 use Rattle.verdict_terms.specs.Stages.{is_word}
 use Rattle.verdict_terms.proofs.Taken.{numbers_line_is, all_wanted_is}
 use Rattle.answer_terms.proofs.OwnAccepted.{decimal_number}
 use Rattle.answer_terms.proofs.OwnWritten.{tokens_filled}
-use Rattle.front_terms.specs.Lines.{PlainLine, CornerAt, PointAt, PlaceAt, TreeToken, FrontPart, Begun, Cornered}
-use Rattle.front_terms.specs.Lines.{Placing, Pointed}
+use Rattle.verdict_terms.specs.Lines.{PlainLine, CornerAt, PointAt, PlaceAt, TreeToken, FrontPart, Begun, Cornered}
+use Rattle.verdict_terms.specs.Lines.{Placing, Pointed}
 use Rattle.answer_terms.specs.FrontTexts.{line_words}
-use Rattle.front_verdict_terms.specs.Verdicts.{two_by, token_by, line_named, placed_in_range}
+use Rattle.verdict_terms.specs.FrontDocumentVerdicts.{two_by, token_by, line_named, placed_in_range}
 
 -- numbers that a line can have
 abbrev IsNumber32 : ℕ → Type 0

@@ -13,15 +13,15 @@ use Rattle.packing_terms.specs.TooLarge.{IsFirstTooWide}
 use Rattle.packing_terms.specs.Tokens.PlainToken.{TooLarge}
 use Rattle.text_terms.specs.Spelling.{instance_words, lines_text}
 use Rattle.text_terms.proofs.Spelled.{AreWords, number_decimal}
-use Rattle.document_terms.specs.declared.claim.SolvingJob.TheVariants.{Strip}
-use Rattle.document_terms.specs.declared.claim.Claim.{Claim}
-use Rattle.document_terms.specs.declared.claim.Claim.TheVariants.{LeastHeight, HeightBetween, NoHeight}
-use Rattle.document_terms.specs.Claims.{job_of, result_words}
-use Rattle.family_terms.specs.FamilyRefutation.{FamilyToken, Free, RefutesFamilies}
+use Rattle.text_terms.specs.declared.claim.SolvingJob.TheVariants.{Strip}
+use Rattle.text_terms.specs.declared.claim.Claim.{Claim}
+use Rattle.text_terms.specs.declared.claim.Claim.TheVariants.{LeastHeight, HeightBetween, NoHeight}
+use Rattle.text_terms.specs.Claims.{job_of, result_words}
+use Rattle.verdict_terms.specs.FamilyRefutation.{FamilyToken, Free, RefutesFamilies}
 use Rattle.verdict_terms.specs.declared.heading.Heading.TheVariants.{Bounded}
 use Rattle.verdict_terms.specs.Form.{IsResult, BacksUnder, MayName, AreProved, ArePlaced, RefuteHeight}
 use Rattle.verdict_terms.proofs.FormGiven.{documents_have_form}
-use Rattle.explained_documents.proofs.KindOf.{bounded_documents}
+use Rattle.verdict_terms.proofs.KindOf.{bounded_documents}
 use Rattle.answer_terms.specs.Answers.{Lines, document_lines, place_lines}
 use Rattle.answer_terms.specs.HeightAnswers.{BoundedHeights, BoundedStrip, Heights, NoneFits, AreJoining, AreBoundedHeights}
 use Rattle.answer_terms.specs.HeightAnswers.{IsBoundedStrip, height_claim, strip_claim, family_token_lines, heights_backing}

@@ -3,8 +3,8 @@
 use Rattle.std.proofs.Common.{◌≡◌, refl, [], ◌∷◌, codes}
 use Rattle.std.specs.Fmt.{decimal}
 use Rattle.packing_terms.specs.Packing.{PlainInstance, PlainBox}
-use Rattle.document_terms.specs.declared.claim.Claim.TheVariants.{LeastHeight, HeightBetween}
-use Rattle.family_terms.specs.FamilyRefutation.{Family}
+use Rattle.text_terms.specs.declared.claim.Claim.TheVariants.{LeastHeight, HeightBetween}
+use Rattle.verdict_terms.specs.FamilyRefutation.{Family}
 use Rattle.answer_terms.specs.HeightAnswers.{BoundedStrip, Heights, NoneFits, height_claim, strip_claim, strip_status}
 use Rattle.answer_terms.specs.HeightAnswers.{bounded_strip_lines}
 

@@ -9,11 +9,11 @@ use Rattle.packing_terms.specs.TooLarge.{IsFirstTooWide}
 use Rattle.packing_terms.proofs.Internal.{internal_sides, written_internal}
 use Rattle.packing_terms.proofs.Neighbours.{fits_higher, least_height}
 use Rattle.packing_terms.proofs.TooLarge.{too_wide}
-use Rattle.scale_terms.proofs.Excess.{excess_law}
+use Rattle.packing_terms.proofs.Excess.{excess_law}
 use Rattle.tree_terms.proofs.Optima.{internal_at}
-use Rattle.document_terms.specs.declared.claim.Claim.TheVariants.{LeastHeight, HeightBetween}
-use Rattle.document_terms.specs.Claims.{IsHeightBetween}
-use Rattle.family_terms.proofs.FamilySound.{none_fits_families}
+use Rattle.text_terms.specs.declared.claim.Claim.TheVariants.{LeastHeight, HeightBetween}
+use Rattle.text_terms.specs.Claims.{IsHeightBetween}
+use Rattle.verdict_terms.proofs.FamilySound.{none_fits_families}
 use Rattle.answer_terms.specs.HeightAnswers.{BoundedHeights, AreBoundedHeights, height_claim}
 use Rattle.answer_terms.specs.HeightLaws.{BoundedStripsAreTrue, BoundedHeightsAreTold}
 

@@ -6,13 +6,13 @@ use Rattle.packing_terms.specs.Packing.{PlainInstance, dims}
 use Rattle.text_terms.specs.Texts.{is_none}
 use Rattle.text_terms.proofs.Spelled.{AreWords}
 use Rattle.text_terms.proofs.Back.{word_decimal}
-use Rattle.document_terms.specs.TokenLines.{IsParameter}
-use Rattle.document_terms.proofs.TokensPlain.{token_plain}
-use Rattle.family_terms.specs.Families.{IsBoxNo}
-use Rattle.family_terms.specs.FamilyRefutation.{FamilyToken, Plain, Family, FamilyNode, MayJoin, RefutesFamilies}
-use Rattle.family_terms.specs.FamilyRefutation.{by_rules, by_side, by_scales, by_family, by_part, by_apart, by_order}
-use Rattle.family_terms.specs.FamilyLines.{HasFamilyLine, family_token_words, most_joining}
-use Rattle.family_terms.proofs.FamilyBack.{family_tokens_are_read_back}
+use Rattle.text_terms.specs.TokenLines.{IsParameter}
+use Rattle.text_terms.proofs.TokensPlain.{token_plain}
+use Rattle.verdict_terms.specs.Families.{IsBoxNo}
+use Rattle.verdict_terms.specs.FamilyRefutation.{FamilyToken, Plain, Family, FamilyNode, MayJoin, RefutesFamilies}
+use Rattle.verdict_terms.specs.FamilyRefutation.{by_rules, by_side, by_scales, by_family, by_part, by_apart, by_order}
+use Rattle.verdict_terms.specs.FamilyLines.{HasFamilyLine, family_token_words, most_joining}
+use Rattle.verdict_terms.proofs.FamilyBack.{family_tokens_are_read_back}
 use Rattle.verdict_terms.specs.Form.{AreFamilyLines}
 use Rattle.answer_terms.specs.HeightAnswers.{AreJoining, family_token_lines}
 use Rattle.answer_terms.proofs.Filled.{AreFilled}

@@ -3,8 +3,8 @@ use Rattle.std.proofs.Common.{◌≡◌, ℕ, refl, ap, ◌∙◌, Bool, true, f
 use Rattle.std.specs.Prelude.{◌==◌}
 use Rattle.packing_terms.specs.Tokens.{PlainToken}
 use Rattle.answer_terms.specs.Walks.{PlainCorner, PlainPoint, PlainFront, sizes}
-use Rattle.front_terms.specs.Lines.{PlainLine, TreeToken}
-use Rattle.front_terms.specs.Verdicts.{points_named}
+use Rattle.verdict_terms.specs.Lines.{PlainLine, TreeToken}
+use Rattle.verdict_terms.specs.Verdicts.{points_named}
 use Rattle.answer_terms.specs.WalkLines.{corner_lines, place_lines, point_lines, step_lines, lines_of, front_lines}
 
 tokens_name : (tokens : List PlainToken) (more : List PlainLine)

@@ -13,18 +13,18 @@ use Rattle.packing_terms.specs.Refutation.{Refutes}
 use Rattle.packing_terms.specs.Tokens.{PlainToken}
 use Rattle.packing_terms.specs.Tokens.PlainToken.{TooLarge}
 use Rattle.packing_terms.proofs.Internal.{written_internal}
-use Rattle.document_terms.specs.TokenLines.{token_words}
+use Rattle.text_terms.specs.TokenLines.{token_words}
 use Rattle.text_terms.specs.Form.{IsNumber}
 use Rattle.text_terms.specs.Spelling.{instance_words, lines_text}
 use Rattle.text_terms.proofs.Spelled.{AreWords, number_decimal}
 use Rattle.text_terms.proofs.Back.{word_decimal, is_decimal}
-use Rattle.document_terms.specs.declared.claim.SolvingJob.{SolvingJob}
-use Rattle.document_terms.specs.declared.claim.SolvingJob.TheVariants.{Fit, Strip, Bins, Knapsack}
-use Rattle.document_terms.specs.declared.claim.Claim.{Claim}
-use Rattle.document_terms.specs.Claims.{job_of, job_word, result_words}
-use Rattle.document_terms.specs.declared.claim.Claim.TheVariants.{Fitting, NotFitting, LeastHeight, HeightBetween}
-use Rattle.document_terms.specs.declared.claim.Claim.TheVariants.{NoHeight, LeastBins, BinsBetween, NoBins}
-use Rattle.document_terms.specs.declared.claim.Claim.TheVariants.{GreatestValue, ValueBetween}
+use Rattle.text_terms.specs.declared.claim.SolvingJob.{SolvingJob}
+use Rattle.text_terms.specs.declared.claim.SolvingJob.TheVariants.{Fit, Strip, Bins, Knapsack}
+use Rattle.text_terms.specs.declared.claim.Claim.{Claim}
+use Rattle.text_terms.specs.Claims.{job_of, job_word, result_words}
+use Rattle.text_terms.specs.declared.claim.Claim.TheVariants.{Fitting, NotFitting, LeastHeight, HeightBetween}
+use Rattle.text_terms.specs.declared.claim.Claim.TheVariants.{NoHeight, LeastBins, BinsBetween, NoBins}
+use Rattle.text_terms.specs.declared.claim.Claim.TheVariants.{GreatestValue, ValueBetween}
 use Rattle.verdict_terms.specs.Trees.{ToFit, ToFitIn, ToReach}
 use Rattle.verdict_terms.specs.declared.heading.Heading.{Heading}
 use Rattle.verdict_terms.specs.declared.heading.Heading.TheVariants.{Answer, Reduced, Bounded}
@@ -44,7 +44,7 @@ use Rattle.answer_terms.proofs.OwnWritten.{IsBounded, internal_bounded, HaveLine
 use Rattle.answer_terms.proofs.OwnWritten.{refuted_written, large_written}
 use Rattle.answer_terms.proofs.OuterWritten.{bins_written, value_written}
 use Rattle.answer_terms.proofs.Numbered.{bins_filled, bins_shared, taken_filled, taken_taken}
-use Rattle.document_terms.specs.Claims.{max_worth}
+use Rattle.text_terms.specs.Claims.{max_worth}
 use Rattle.answer_terms.proofs.Placed.{packing_filled, packing_placed, rows_words}
 
 job_plain : (job : SolvingJob) → AreWords (job_word job ∷ [])

@@ -16,20 +16,20 @@ use Rattle.text_terms.proofs.Good.{bind_ok}
 use Rattle.verdict_terms.specs.Stages.{is_word, is_blank}
 use Rattle.verdict_terms.proofs.FormTold.{any_end}
 use Rattle.verdict_terms.proofs.Passed.{is_word_ok}
-use Rattle.explained_terms.specs.Steps.{PlainStep}
-use Rattle.explained_terms.specs.StepLines.{step_of, step_words}
-use Rattle.explained_terms.specs.Judging.{AuditNode, at_rest}
-use Rattle.explained_terms.specs.Auditing.{audited_after, audited_after_all}
-use Rattle.explained_terms.proofs.Fed.{explained_fed}
-use Rattle.explained_terms.proofs.StepsBack.{steps_are_read_back}
-use Rattle.explained_documents.specs.Stages.{ExplainedStage, Heading, Reading, Explaining, Ending, Ended, form, begun}
-use Rattle.explained_documents.specs.Stages.{grown, tree_step, text_fault, end_of_parts, reading_line}
-use Rattle.explained_documents.specs.Stages.{require, are_two, coded, stage_after}
-use Rattle.explained_documents.specs.declared.kind.DocumentKind.{DocumentKind}
-use Rattle.explained_documents.specs.declared.kind.DocumentKind.TheVariants.{Explained as ExplainedKind}
-use Rattle.explained_documents.specs.Kinds.{kind_of_line, kind_of_lines}
-use Rattle.explained_documents.specs.Documents.{at_line, read_lines, explained_verdict}
-use Rattle.explained_documents.proofs.InstanceLines.{no_result, at_line_ok}
+use Rattle.verdict_terms.specs.Steps.{PlainStep}
+use Rattle.verdict_terms.specs.StepLines.{step_of, step_words}
+use Rattle.verdict_terms.specs.ExplainedJudging.{AuditNode, at_rest}
+use Rattle.verdict_terms.specs.Auditing.{audited_after, audited_after_all}
+use Rattle.verdict_terms.proofs.ExplainedFed.{explained_fed}
+use Rattle.verdict_terms.proofs.StepsBack.{steps_are_read_back}
+use Rattle.verdict_terms.specs.ExplainedDocumentStages.{ExplainedStage, Heading, Reading, Explaining, Ending, Ended, form, begun}
+use Rattle.verdict_terms.specs.ExplainedDocumentStages.{grown, tree_step, text_fault, end_of_parts, reading_line}
+use Rattle.verdict_terms.specs.ExplainedDocumentStages.{require, are_two, coded, stage_after}
+use Rattle.verdict_terms.specs.declared.kind.DocumentKind.{DocumentKind}
+use Rattle.verdict_terms.specs.declared.kind.DocumentKind.TheVariants.{Explained as ExplainedKind}
+use Rattle.verdict_terms.specs.Kinds.{kind_of_line, kind_of_lines}
+use Rattle.verdict_terms.specs.ExplainedDocumentDocuments.{at_line, read_lines, explained_verdict}
+use Rattle.verdict_terms.proofs.InstanceLines.{no_result, at_line_ok}
 use Rattle.answer_terms.specs.Answers.{Lines}
 use Rattle.answer_terms.specs.Explained.{step_lines, explained_lines, explained_text}
 use Rattle.answer_terms.specs.Own.{OwnExplanationsAreVerified}

@@ -1,6 +1,6 @@
 -- A claim that is answered from the symmetry facts on has a document.
 use Rattle.std.proofs.Common.{sym, subst}
-use Rattle.document_terms.specs.declared.claim.SolvingJob.{SolvingJob}
+use Rattle.text_terms.specs.declared.claim.SolvingJob.{SolvingJob}
 use Rattle.verdict_terms.specs.declared.heading.Heading.TheVariants.{Reduced}
 use Rattle.verdict_terms.specs.Form.{MayName}
 use Rattle.verdict_terms.proofs.FormGiven.{documents_have_form}
@@ -9,7 +9,7 @@ use Rattle.answer_terms.specs.declared.job.ReducedJob.TheVariants.{Fit, Strip}
 use Rattle.answer_terms.specs.Answers.Answer.{Claimed}
 use Rattle.answer_terms.specs.Reduced.{reduced_text, solving_job}
 use Rattle.answer_terms.proofs.Reduced.{reduced_shown}
-use Rattle.explained_documents.proofs.KindOf.{reduced_documents}
+use Rattle.verdict_terms.proofs.KindOf.{reduced_documents}
 use Rattle.answer_terms.specs.Own.{OwnReducedDocumentsAreVerified}
 use Rattle.answer_terms.proofs.OwnAccepted.{shown_headed}
 

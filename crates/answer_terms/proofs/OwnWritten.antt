@@ -12,11 +12,11 @@ use Rattle.packing_terms.specs.Tokens.{PlainToken}
 use Rattle.packing_terms.specs.Tokens.PlainToken.{TooLarge}
 use Rattle.packing_terms.specs.Refutation.{Refutes, by_rules, by_side, by_scales, by_apart, by_order, IsNamed}
 use Rattle.packing_terms.specs.Refutation.{IsTooLarge}
-use Rattle.document_terms.specs.TokenLines.{IsParameter, AreWritten, IsWrittenTuple, HasLine}
+use Rattle.text_terms.specs.TokenLines.{IsParameter, AreWritten, IsWrittenTuple, HasLine}
 use Rattle.verdict_terms.specs.Form.{AreTokenLines}
-use Rattle.document_terms.proofs.TokensBack.{tokens_are_read_back}
+use Rattle.text_terms.proofs.TokensBack.{tokens_are_read_back}
 use Rattle.answer_terms.specs.Answers.{token_lines}
-use Rattle.document_terms.proofs.TokensPlain.{token_plain}
+use Rattle.text_terms.proofs.TokensPlain.{token_plain}
 use Rattle.answer_terms.proofs.Filled.{AreFilled}
 
 -- each token has a line with d dimensions

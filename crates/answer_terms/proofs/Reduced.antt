@@ -3,13 +3,13 @@ use Rattle.std.proofs.Common.{ℕ, Bool, refl, subst}
 use Rattle.packing_terms.specs.Packing.{PlainInstance}
 use Rattle.packing_terms.specs.Limits.{IsInternalInstance}
 use Rattle.packing_terms.proofs.Internal.{written_internal, internal_sides, some_dimension}
-use Rattle.symmetry_terms.specs.Facts.{symmetry_facts}
-use Rattle.symmetry_terms.proofs.Levels.{none_fits_under}
-use Rattle.symmetry_terms.proofs.Members.{facts_at_edges}
+use Rattle.packing_terms.specs.Facts.{symmetry_facts}
+use Rattle.packing_terms.proofs.Levels.{none_fits_under}
+use Rattle.packing_terms.proofs.SymmetryMembers.{facts_at_edges}
 use Rattle.tree_terms.specs.Trees.{outcome}
 use Rattle.tree_terms.specs.ClassTree.{class_tree, first_too_wide}
 use Rattle.tree_terms.proofs.Decisions.{class_tree_right}
-use Rattle.reduced_levels.proofs.Heights.{facts_decide}
+use Rattle.tree_terms.proofs.Heights.{facts_decide}
 use Rattle.answer_terms.specs.declared.job.ReducedJob.{ReducedJob}
 use Rattle.answer_terms.specs.declared.job.ReducedJob.TheVariants.{Fit, Strip}
 use Rattle.answer_terms.specs.Reduced.{reduced_solved, solving_job, ReducedAnswersAreShown, ReducedAnswersAreTrue}

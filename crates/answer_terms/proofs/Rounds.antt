@@ -7,7 +7,7 @@ use Rattle.tree_terms.specs.Levels.{PlainLevel, PlacedBy, RefutedBy, SpentAt, Pl
 use Rattle.tree_terms.specs.Levels.{IsRightLevel}
 use Rattle.tree_terms.proofs.Runs.{run_right}
 use Rattle.tree_terms.proofs.LevelOrder.{rising_end}
-use Rattle.front_terms.specs.Fronts.{with_container}
+use Rattle.verdict_terms.specs.Fronts.{with_container}
 use Rattle.answer_terms.specs.Walks.{levels_from, width_run, height_run}
 
 module _ (instance : PlainInstance) where

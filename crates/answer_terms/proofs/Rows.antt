@@ -9,9 +9,9 @@ use Rattle.packing_terms.specs.Generator.{made_instance}
 use Rattle.tree_terms.specs.Trees.{Decided, Past, Yes, No}
 use Rattle.packing_terms.specs.Tokens.PlainToken.{Rules, TooLarge, Choose, SetRefuted, ValueShort, GlobalScales}
 use Rattle.text_terms.specs.Spelling.{lines_text}
-use Rattle.document_terms.specs.declared.claim.SolvingJob.TheVariants.{Fit, Strip, Bins, Knapsack}
-use Rattle.document_terms.specs.declared.claim.Claim.TheVariants.{Fitting, NotFitting, LeastHeight, HeightBetween}
-use Rattle.document_terms.specs.declared.claim.Claim.TheVariants.{NoHeight, LeastBins, BinsBetween, GreatestValue}
+use Rattle.text_terms.specs.declared.claim.SolvingJob.TheVariants.{Fit, Strip, Bins, Knapsack}
+use Rattle.text_terms.specs.declared.claim.Claim.TheVariants.{Fitting, NotFitting, LeastHeight, HeightBetween}
+use Rattle.text_terms.specs.declared.claim.Claim.TheVariants.{NoHeight, LeastBins, BinsBetween, GreatestValue}
 use Rattle.answer_terms.specs.Answers.{answer_lines, Lines}
 use Rattle.answer_terms.specs.Answers.Answer.{Undecided, Claimed}
 use Rattle.answer_terms.specs.Solved.{solved}

@@ -18,13 +18,13 @@ use Rattle.tree_terms.proofs.Decisions.{class_tree_right}
 use Rattle.tree_terms.proofs.FirstFound.{first_large_is, first_too_wide_is, none_large_is, none_too_wide_is}
 use Rattle.tree_terms.proofs.Optima.{stack_small, bins_keep, values_keep}
 use Rattle.tree_terms.proofs.SpentRuns.{bins_end, value_end}
-use Rattle.reduced_levels.specs.Heights.{height_run_from, DecideHeights}
-use Rattle.reduced_levels.proofs.Heights.{none_decides, keeps_from, end_from}
-use Rattle.document_terms.specs.declared.claim.SolvingJob.{SolvingJob}
-use Rattle.document_terms.specs.Claims.{max_worth}
-use Rattle.document_terms.specs.declared.claim.SolvingJob.TheVariants.{Fit, Strip, Bins, Knapsack}
-use Rattle.document_terms.specs.declared.claim.Claim.TheVariants.{LeastHeight, HeightBetween, LeastBins, BinsBetween}
-use Rattle.document_terms.specs.declared.claim.Claim.TheVariants.{GreatestValue, ValueBetween}
+use Rattle.tree_terms.specs.Heights.{height_run_from, DecideHeights}
+use Rattle.tree_terms.proofs.Heights.{none_decides, keeps_from, end_from}
+use Rattle.text_terms.specs.declared.claim.SolvingJob.{SolvingJob}
+use Rattle.text_terms.specs.Claims.{max_worth}
+use Rattle.text_terms.specs.declared.claim.SolvingJob.TheVariants.{Fit, Strip, Bins, Knapsack}
+use Rattle.text_terms.specs.declared.claim.Claim.TheVariants.{LeastHeight, HeightBetween, LeastBins, BinsBetween}
+use Rattle.text_terms.specs.declared.claim.Claim.TheVariants.{GreatestValue, ValueBetween}
 use Rattle.answer_terms.specs.Answers.{Answer}
 use Rattle.answer_terms.specs.Answers.Answer.{Undecided, Claimed}
 use Rattle.answer_terms.specs.Solved.{solved, fit_answer, reached_claim, strip_answer, bins_answer, knapsack_answer}

@@ -10,7 +10,7 @@ use Rattle.tree_terms.specs.ClassTree.{class_tree}
 use Rattle.tree_terms.specs.Levels.{PlainLevel, PlacedBy, RefutedBy, SpentAt, level_by}
 use Rattle.tree_terms.proofs.LevelOrder.{rising_end, spent_exactly as run_spent_exactly}
 use Rattle.tree_terms.proofs.Counts.{class_count}
-use Rattle.front_terms.specs.Fronts.{with_container}
+use Rattle.verdict_terms.specs.Fronts.{with_container}
 use Rattle.answer_terms.specs.Walks.{PlainFront, levels_from, spent_front, width_run, height_run, rest_by}
 use Rattle.answer_terms.specs.Walks.{round_by_heights, round_by_widths, round_by, walk_on, walk, size_answer, front_walk}
 use Rattle.answer_terms.specs.Asked.{IsSizeAsked, widest, by_width, by_height, later, HasSpentSize, HasContainerPastBudget}

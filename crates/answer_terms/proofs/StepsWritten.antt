@@ -14,14 +14,14 @@ use Rattle.packing_terms.proofs.Boxes.{boxes_few}
 use Rattle.text_terms.specs.Texts.{is_none}
 use Rattle.text_terms.proofs.Spelled.{AreWords}
 use Rattle.text_terms.proofs.Back.{word_decimal}
-use Rattle.document_terms.specs.TokenLines.{IsParameter}
-use Rattle.explained_terms.specs.Steps.{PlainStep, box_lines, lines_of}
-use Rattle.explained_terms.specs.Steps.PlainStep.{Pair, Apart, Triple, Compose, Cycle, Order, Chain, On, Clash, Plain}
-use Rattle.explained_terms.specs.StepLines.{HasPlainLine, HasStepLine, step_words}
-use Rattle.explained_terms.specs.Explaining.{Explains, by_clash, by_side, by_scales, by_step, by_apart, by_order}
+use Rattle.text_terms.specs.TokenLines.{IsParameter}
+use Rattle.verdict_terms.specs.Steps.{PlainStep, box_lines, lines_of}
+use Rattle.verdict_terms.specs.Steps.PlainStep.{Pair, Apart, Triple, Compose, Cycle, Order, Chain, On, Clash, Plain}
+use Rattle.verdict_terms.specs.StepLines.{HasPlainLine, HasStepLine, step_words}
+use Rattle.verdict_terms.specs.Explaining.{Explains, by_clash, by_side, by_scales, by_step, by_apart, by_order}
 use Rattle.answer_terms.specs.Explained.{step_lines}
 use Rattle.answer_terms.proofs.Filled.{AreFilled}
-use Rattle.explained_terms.proofs.StepsPlain.{step_plain}
+use Rattle.verdict_terms.proofs.StepsPlain.{step_plain}
 use Rattle.answer_terms.proofs.OwnWritten.{IsBounded, tuple_written, named_written, large_written}
 
 -- each step has a line with d dimensions

@@ -15,17 +15,17 @@ use Rattle.packing_terms.proofs.ValueRefuted.{none_reaches}
 use Rattle.packing_terms.proofs.TooLarge.{too_wide, too_large}
 use Rattle.packing_terms.proofs.Neighbours.{fits_higher, fits_in_more, reaches_lower, least_height, least_bins}
 use Rattle.packing_terms.proofs.Neighbours.{greatest_value}
-use Rattle.scale_terms.proofs.Excess.{excess_law}
+use Rattle.packing_terms.proofs.Excess.{excess_law}
 use Rattle.tree_terms.specs.Trees.{Verdict, Yes, No, Decided, Past, outcome, under_budget, count_of}
 use Rattle.tree_terms.specs.ClassTree.{class_tree}
-use Rattle.reduced_levels.specs.Heights.{DecideHeights}
-use Rattle.reduced_levels.proofs.Heights.{none_decides}
+use Rattle.tree_terms.specs.Heights.{DecideHeights}
+use Rattle.tree_terms.proofs.Heights.{none_decides}
 use Rattle.tree_terms.specs.OuterSearch.{AreTakenNumbers, bins_in, places_in}
-use Rattle.document_terms.specs.declared.claim.Claim.{Claim}
-use Rattle.document_terms.specs.Claims.{IsTrueOf}
-use Rattle.document_terms.specs.declared.claim.Claim.TheVariants.{Fitting, NotFitting, LeastHeight, HeightBetween}
-use Rattle.document_terms.specs.declared.claim.Claim.TheVariants.{NoHeight, LeastBins, BinsBetween, NoBins}
-use Rattle.document_terms.specs.declared.claim.Claim.TheVariants.{GreatestValue, ValueBetween}
+use Rattle.text_terms.specs.declared.claim.Claim.{Claim}
+use Rattle.text_terms.specs.Claims.{IsTrueOf}
+use Rattle.text_terms.specs.declared.claim.Claim.TheVariants.{Fitting, NotFitting, LeastHeight, HeightBetween}
+use Rattle.text_terms.specs.declared.claim.Claim.TheVariants.{NoHeight, LeastBins, BinsBetween, NoBins}
+use Rattle.text_terms.specs.declared.claim.Claim.TheVariants.{GreatestValue, ValueBetween}
 use Rattle.answer_terms.specs.Answers.Answer.{Undecided, Claimed}
 use Rattle.answer_terms.specs.Answers.{Answer}
 use Rattle.answer_terms.specs.Solved.{solved, fit_answer}

@@ -6,11 +6,11 @@ use Rattle.packing_terms.specs.Limits.{IsInstance}
 use Rattle.text_terms.specs.Lines.{text_lines}
 use Rattle.text_terms.specs.Spelling.{instance_words, lines_text}
 use Rattle.text_terms.specs.Form.{HasForm, AreBoxLines, IsKerfPart}
-use Rattle.document_terms.specs.declared.claim.Claim.{Claim}
-use Rattle.document_terms.specs.declared.claim.SolvingJob.TheVariants.{Fit, Strip, Bins, Knapsack}
-use Rattle.document_terms.specs.declared.claim.Claim.TheVariants.{Fitting, NotFitting, LeastHeight, HeightBetween}
-use Rattle.document_terms.specs.declared.claim.Claim.TheVariants.{NoHeight, LeastBins, BinsBetween, NoBins}
-use Rattle.document_terms.specs.declared.claim.Claim.TheVariants.{GreatestValue, ValueBetween}
+use Rattle.text_terms.specs.declared.claim.Claim.{Claim}
+use Rattle.text_terms.specs.declared.claim.SolvingJob.TheVariants.{Fit, Strip, Bins, Knapsack}
+use Rattle.text_terms.specs.declared.claim.Claim.TheVariants.{Fitting, NotFitting, LeastHeight, HeightBetween}
+use Rattle.text_terms.specs.declared.claim.Claim.TheVariants.{NoHeight, LeastBins, BinsBetween, NoBins}
+use Rattle.text_terms.specs.declared.claim.Claim.TheVariants.{GreatestValue, ValueBetween}
 use Rattle.verdict_terms.specs.declared.heading.Heading.TheVariants.{Answer, Reduced}
 use Rattle.verdict_terms.specs.Documents.{Refusal, reduced_verdict}
 use Rattle.verdict_terms.specs.Form.{IsReducedDocument, IsDocument, IsResult}
@@ -20,14 +20,14 @@ use Rattle.answer_terms.specs.Answers.Answer.{Undecided}
 use Rattle.answer_terms.specs.Solved.{solved, strip_answer, bins_answer}
 use Rattle.tree_terms.specs.ClassTree.{first_too_large_box, first_too_wide}
 use Rattle.tree_terms.specs.Levels.{height_run, bin_run}
-use Rattle.reduced_levels.specs.Heights.{reduced_height_run}
+use Rattle.tree_terms.specs.Heights.{reduced_height_run}
 use Rattle.answer_terms.specs.Own.{OnlyFitIsUndecided, OnlyReducedFitIsUndecided, UndecidedIsRefused}
 use Rattle.answer_terms.specs.Own.{ReducedUndecidedIsRefused, IsReducedRefused}
 use Rattle.answer_terms.specs.declared.job.ReducedJob.TheVariants.{Fit as ReducesFit, Strip as ReducesStrip}
 use Rattle.answer_terms.specs.Reduced.{reduced_solved, reduced_text, reduced_answer_lines}
-use Rattle.explained_documents.specs.declared.kind.DocumentKind.TheVariants.{Reduced as ReducedKind}
-use Rattle.explained_documents.specs.Kinds.{document_kind}
-use Rattle.explained_documents.proofs.KindOf.{filled_kind, job_kind}
+use Rattle.verdict_terms.specs.declared.kind.DocumentKind.TheVariants.{Reduced as ReducedKind}
+use Rattle.verdict_terms.specs.Kinds.{document_kind}
+use Rattle.verdict_terms.proofs.KindOf.{filled_kind, job_kind}
 use Rattle.answer_terms.proofs.Filled.{AreFilled, clean_text, filled_text, instance_form}
 use Rattle.answer_terms.proofs.OwnAccepted.{filled_document}
 

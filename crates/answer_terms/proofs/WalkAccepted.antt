@@ -9,18 +9,18 @@ use Rattle.packing_terms.specs.Tokens.{PlainToken}
 use Rattle.packing_terms.specs.Refutation.{Refutes}
 use Rattle.packing_terms.proofs.Internal.{some_box}
 use Rattle.tree_terms.specs.Levels.{PlainLevel, PlacedBy, RefutedBy, SpentAt, PlainReached}
-use Rattle.front_terms.specs.Fronts.{with_container}
+use Rattle.verdict_terms.specs.Fronts.{with_container}
 use Rattle.answer_terms.specs.Walks.{PlainFront, corner_unless_empty, spent_front, closed_front, front_after, width_run}
 use Rattle.answer_terms.specs.Walks.{height_run, rest_by, round_by_heights, round_by_widths, round_by, walk_on, walk}
-use Rattle.front_terms.specs.Lines.{PlainLine, CornerAt, Cornered, Pointed, FrontStage, wanted, form, range}
-use Rattle.front_terms.specs.Lines.{closing_width, cornered, closing_corner, front_line, announced}
-use Rattle.front_terms.specs.Verdicts.{front_verdict}
+use Rattle.verdict_terms.specs.Lines.{PlainLine, CornerAt, Cornered, Pointed, FrontStage, wanted, form, range}
+use Rattle.verdict_terms.specs.Lines.{closing_width, cornered, closing_corner, front_line, announced}
+use Rattle.verdict_terms.specs.Verdicts.{front_verdict}
 use Rattle.answer_terms.specs.WalkLines.{step_lines, front_lines, corner_lines, point_lines}
-use Rattle.front_terms.proofs.Sizes.{refuted_size, sides_at}
+use Rattle.verdict_terms.proofs.Sizes.{refuted_size, sides_at}
 use Rattle.answer_terms.proofs.Rounds.{IsRightSize, AreRightSizes, IsNarrow, IsWidthEnd, IsHeightEnd, width_end}
 use Rattle.answer_terms.proofs.Rounds.{height_end}
-use Rattle.front_terms.specs.declared.answers.FrontVerdict.TheVariants.{Good}
-use Rattle.front_terms.proofs.Good.{AreGood, good_verdict}
+use Rattle.verdict_terms.specs.declared.front_answers.FrontVerdict.TheVariants.{Good}
+use Rattle.verdict_terms.proofs.Good.{AreGood, good_verdict}
 use Rattle.answer_terms.proofs.WalkPieces.{wanted_from, good_corner, good_point}
 
 closing_by : {A : Type 0} (b : Bool) (x y : A) → b ≡ false → cond b x y ≡ y

@@ -8,17 +8,17 @@ use Rattle.packing_terms.specs.Packing.{PlainInstance, IsPacking, box_count}
 use Rattle.packing_terms.specs.Results.{◌>>=◌}
 use Rattle.packing_terms.specs.Tokens.{PlainToken}
 use Rattle.packing_terms.specs.Refutation.{Refutes}
-use Rattle.check_terms.specs.declared.answers.PlaceVerdict.TheVariants.{Good as GoodPlaces}
-use Rattle.check_terms.specs.declared.answers.RefuseCode.{RefuseCode}
-use Rattle.check_terms.specs.Checking.{inner_after, nodes_after_all}
-use Rattle.check_terms.specs.Placing.{place_verdict}
-use Rattle.check_terms.proofs.Refuting.{inner_refutes}
-use Rattle.check_terms.proofs.Places.{places_tested}
-use Rattle.front_terms.specs.declared.answers.FrontReason.{FrontReason}
-use Rattle.front_terms.specs.Fronts.{with_container}
-use Rattle.front_terms.specs.Lines.{PlainLine, CornerAt, PointAt, PlaceAt, TreeToken, Cornered, Placing, Pointed}
-use Rattle.front_terms.specs.Lines.{FrontStage, wanted, cornered, grown, front_line}
-use Rattle.front_terms.proofs.Good.{AreGood}
+use Rattle.verdict_terms.specs.declared.check_answers.PlaceVerdict.TheVariants.{Good as GoodPlaces}
+use Rattle.verdict_terms.specs.declared.check_answers.RefuseCode.{RefuseCode}
+use Rattle.verdict_terms.specs.Checking.{inner_after, nodes_after_all}
+use Rattle.verdict_terms.specs.Placing.{place_verdict}
+use Rattle.verdict_terms.proofs.Refuting.{inner_refutes}
+use Rattle.verdict_terms.proofs.Places.{places_tested}
+use Rattle.verdict_terms.specs.declared.front_answers.FrontReason.{FrontReason}
+use Rattle.verdict_terms.specs.Fronts.{with_container}
+use Rattle.verdict_terms.specs.Lines.{PlainLine, CornerAt, PointAt, PlaceAt, TreeToken, Cornered, Placing, Pointed}
+use Rattle.verdict_terms.specs.Lines.{FrontStage, wanted, cornered, grown, front_line}
+use Rattle.verdict_terms.proofs.Good.{AreGood}
 use Rattle.answer_terms.specs.WalkLines.{place_lines, corner_lines, point_lines}
 
 pub wanted_from : {A : Type 0} (b : Bool) (reason : FrontReason) (x : A) → b ≡ true → wanted b reason x ≡ Ok x

@@ -2,12 +2,12 @@
 use Rattle.std.proofs.Common.{◌≡◌, ℕ, refl, List, [], ◌∷◌, true, false}
 use Rattle.packing_terms.specs.Packing.{PlainInstance, PlainBox}
 use Rattle.packing_terms.specs.Tokens.PlainToken.{Rules, TooLarge}
-use Rattle.check_terms.specs.declared.answers.RefuseCode.TheVariants.{Range, After, Kind}
-use Rattle.front_terms.specs.declared.answers.FrontReason.TheVariants.{Tree}
-use Rattle.front_terms.specs.declared.answers.FrontVerdict.TheVariants.{Good, Short, Refused}
+use Rattle.verdict_terms.specs.declared.check_answers.RefuseCode.TheVariants.{Range, After, Kind}
+use Rattle.verdict_terms.specs.declared.front_answers.FrontReason.TheVariants.{Tree}
+use Rattle.verdict_terms.specs.declared.front_answers.FrontVerdict.TheVariants.{Good, Short, Refused}
 use Rattle.answer_terms.specs.Walks.{front_walk}
-use Rattle.front_terms.specs.Lines.{PlainLine, CornerAt, PointAt, PlaceAt, TreeToken}
-use Rattle.front_terms.specs.Verdicts.{front_verdict}
+use Rattle.verdict_terms.specs.Lines.{PlainLine, CornerAt, PointAt, PlaceAt, TreeToken}
+use Rattle.verdict_terms.specs.Verdicts.{front_verdict}
 use Rattle.answer_terms.specs.WalkLines.{front_lines}
 
 abbrev box : ℕ → ℕ → PlainBox

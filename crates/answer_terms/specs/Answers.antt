@@ -8,14 +8,14 @@ use Rattle.packing_terms.specs.Packing.{PlainInstance, dims, box_count, place}
 use Rattle.packing_terms.specs.Tokens.{PlainToken}
 use Rattle.packing_terms.specs.Sums.{below}
 use Rattle.text_terms.specs.Spelling.{instance_words, lines_text}
-use Rattle.document_terms.specs.declared.claim.SolvingJob.{SolvingJob}
-use Rattle.document_terms.specs.declared.claim.Claim.{Claim}
-use Rattle.document_terms.specs.Claims.{job_of, job_word, result_words}
-use Rattle.document_terms.specs.declared.claim.SolvingJob.TheVariants.{Fit}
-use Rattle.document_terms.specs.declared.claim.Claim.TheVariants.{Fitting, NotFitting, LeastHeight, HeightBetween}
-use Rattle.document_terms.specs.declared.claim.Claim.TheVariants.{NoHeight, LeastBins, BinsBetween, NoBins}
-use Rattle.document_terms.specs.declared.claim.Claim.TheVariants.{GreatestValue, ValueBetween}
-use Rattle.document_terms.specs.TokenLines.{token_words}
+use Rattle.text_terms.specs.declared.claim.SolvingJob.{SolvingJob}
+use Rattle.text_terms.specs.declared.claim.Claim.{Claim}
+use Rattle.text_terms.specs.Claims.{job_of, job_word, result_words}
+use Rattle.text_terms.specs.declared.claim.SolvingJob.TheVariants.{Fit}
+use Rattle.text_terms.specs.declared.claim.Claim.TheVariants.{Fitting, NotFitting, LeastHeight, HeightBetween}
+use Rattle.text_terms.specs.declared.claim.Claim.TheVariants.{NoHeight, LeastBins, BinsBetween, NoBins}
+use Rattle.text_terms.specs.declared.claim.Claim.TheVariants.{GreatestValue, ValueBetween}
+use Rattle.text_terms.specs.TokenLines.{token_words}
 
 -- Undecided, or a claim with the flat numbers of an answer, which show what the claim places, and
 -- the tokens of a refutation of what it refutes. A claim that places nothing has no numbers, and

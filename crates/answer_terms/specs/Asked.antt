@@ -6,7 +6,7 @@ use Rattle.tree_terms.specs.Trees.{outcome, count_of}
 use Rattle.tree_terms.specs.ClassTree.{class_tree}
 use Rattle.tree_terms.specs.Levels.{PlainLevel, PlacedBy, SpentAt}
 use Rattle.tree_terms.specs.RunEnds.{IsLevelDecided}
-use Rattle.front_terms.specs.Fronts.{with_container}
+use Rattle.verdict_terms.specs.Fronts.{with_container}
 use Rattle.answer_terms.specs.Walks.{levels_from, width_run, height_run, size_answer}
 
 -- A walk that stands at a height and at a width that is refuted there decides the container of this

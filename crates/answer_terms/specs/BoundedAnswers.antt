@@ -4,14 +4,14 @@
 use Rattle.std.specs.Prelude.{ℕ, suc, ◌<◌, ◌≤◌, ◌==◌, cond, List, [], ◌∷◌, ◌++◌, map, codes}
 use Rattle.packing_terms.specs.Packing.{PlainInstance}
 use Rattle.text_terms.specs.Spelling.{lines_text}
-use Rattle.document_terms.specs.declared.claim.SolvingJob.TheVariants.{Knapsack}
-use Rattle.document_terms.specs.declared.claim.Claim.{Claim}
-use Rattle.document_terms.specs.declared.claim.Claim.TheVariants.{GreatestValue, ValueBetween}
-use Rattle.document_terms.specs.Claims.{result_words, max_worth}
-use Rattle.document_terms.specs.TokenLines.{IsParameter}
+use Rattle.text_terms.specs.declared.claim.SolvingJob.TheVariants.{Knapsack}
+use Rattle.text_terms.specs.declared.claim.Claim.{Claim}
+use Rattle.text_terms.specs.declared.claim.Claim.TheVariants.{GreatestValue, ValueBetween}
+use Rattle.text_terms.specs.Claims.{result_words, max_worth}
+use Rattle.text_terms.specs.TokenLines.{IsParameter}
 use Rattle.tree_terms.specs.OuterSearch.{AreTakenNumbers}
-use Rattle.bounded_terms.specs.BoundedRefutation.{BoundedToken, Plain, PricedOut, Exchange, IsBoundedRefutation}
-use Rattle.bounded_terms.specs.BoundedLines.{bounded_token_words}
+use Rattle.verdict_terms.specs.BoundedRefutation.{BoundedToken, Plain, PricedOut, Exchange, IsBoundedRefutation}
+use Rattle.verdict_terms.specs.BoundedLines.{bounded_token_words}
 use Rattle.answer_terms.specs.Answers.{Lines, claim_status, document_lines, take_lines}
 
 -- A placed value, with the numbers of a set of boxes that is worth it, and a refuted value, with the

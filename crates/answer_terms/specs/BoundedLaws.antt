@@ -3,13 +3,13 @@ use Rattle.std.specs.Prelude.{ℕ, suc, ◌≡◌, List, Ok}
 use Rattle.packing_terms.specs.Packing.{PlainInstance}
 use Rattle.packing_terms.specs.Limits.{IsInstance}
 use Rattle.packing_terms.specs.Goals.{IsGreatestValue}
-use Rattle.document_terms.specs.declared.claim.Claim.{Claim}
-use Rattle.document_terms.specs.declared.claim.Claim.TheVariants.{GreatestValue, ValueBetween}
-use Rattle.document_terms.specs.Claims.{IsValueBetween}
+use Rattle.text_terms.specs.declared.claim.Claim.{Claim}
+use Rattle.text_terms.specs.declared.claim.Claim.TheVariants.{GreatestValue, ValueBetween}
+use Rattle.text_terms.specs.Claims.{IsValueBetween}
 use Rattle.verdict_terms.specs.Documents.{bounded_verdict}
 use Rattle.verdict_terms.specs.Form.{IsBoundedDocument}
-use Rattle.explained_documents.specs.declared.kind.DocumentKind.TheVariants.{Bounded}
-use Rattle.explained_documents.specs.Kinds.{document_kind}
+use Rattle.verdict_terms.specs.declared.kind.DocumentKind.TheVariants.{Bounded}
+use Rattle.verdict_terms.specs.Kinds.{document_kind}
 use Rattle.answer_terms.specs.BoundedAnswers.{BoundedAnswer, IsBoundedAnswer, bounded_claim, bounded_text}
 
 -- the text is a bounded document of the claim, also by its first line, verified with the claim, and the

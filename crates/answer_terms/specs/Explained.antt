@@ -4,8 +4,8 @@
 use Rattle.std.specs.Prelude.{ℕ, List, [], ◌∷◌, ◌++◌, map, codes}
 use Rattle.packing_terms.specs.Packing.{PlainInstance}
 use Rattle.text_terms.specs.Spelling.{instance_words, lines_text}
-use Rattle.explained_terms.specs.Steps.{PlainStep}
-use Rattle.explained_terms.specs.StepLines.{step_words}
+use Rattle.verdict_terms.specs.Steps.{PlainStep}
+use Rattle.verdict_terms.specs.StepLines.{step_words}
 use Rattle.answer_terms.specs.Answers.{Lines}
 
 -- a line for each step

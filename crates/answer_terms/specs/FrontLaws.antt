@@ -2,11 +2,11 @@
 use Rattle.std.specs.Prelude.{ℕ, ◌≡◌, Bool, length, Ok}
 use Rattle.packing_terms.specs.Packing.{PlainInstance, dims}
 use Rattle.packing_terms.specs.Limits.{IsInstance}
-use Rattle.explained_documents.specs.declared.kind.DocumentKind.TheVariants.{Front}
-use Rattle.explained_documents.specs.Kinds.{document_kind}
+use Rattle.verdict_terms.specs.declared.kind.DocumentKind.TheVariants.{Front}
+use Rattle.verdict_terms.specs.Kinds.{document_kind}
 use Rattle.answer_terms.specs.Walks.{front_walk}
 use Rattle.answer_terms.specs.FrontTexts.{front_text}
-use Rattle.front_verdict_terms.specs.Verdicts.{front_document_verdict}
+use Rattle.verdict_terms.specs.FrontDocumentVerdicts.{front_document_verdict}
 
 -- the document of a walk is verified with its claim
 abbrev pub OwnFrontsAreVerified : Type 0

@@ -4,9 +4,9 @@ use Rattle.std.specs.Prelude.{ℕ, ◌==◌, cond, Bool, true, false, List, [], 
 use Rattle.std.specs.Fmt.{decimal}
 use Rattle.packing_terms.specs.Packing.{PlainInstance}
 use Rattle.text_terms.specs.Spelling.{instance_words, lines_text}
-use Rattle.document_terms.specs.TokenLines.{token_words}
+use Rattle.text_terms.specs.TokenLines.{token_words}
 use Rattle.answer_terms.specs.Walks.{PlainFront, front_walk}
-use Rattle.front_terms.specs.Lines.{PlainLine, CornerAt, PointAt, PlaceAt, TreeToken}
+use Rattle.verdict_terms.specs.Lines.{PlainLine, CornerAt, PointAt, PlaceAt, TreeToken}
 use Rattle.answer_terms.specs.WalkLines.{front_lines}
 
 -- the words of a line

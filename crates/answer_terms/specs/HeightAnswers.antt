@@ -8,12 +8,12 @@ use Rattle.packing_terms.specs.Limits.{max_height}
 use Rattle.packing_terms.specs.TooLarge.{IsFirstTooWide}
 use Rattle.packing_terms.specs.Tokens.PlainToken.{TooLarge}
 use Rattle.text_terms.specs.Spelling.{lines_text}
-use Rattle.document_terms.specs.declared.claim.SolvingJob.TheVariants.{Strip}
-use Rattle.document_terms.specs.declared.claim.Claim.{Claim}
-use Rattle.document_terms.specs.declared.claim.Claim.TheVariants.{LeastHeight, HeightBetween, NoHeight}
-use Rattle.document_terms.specs.Claims.{result_words}
-use Rattle.family_terms.specs.FamilyRefutation.{FamilyToken, Plain, Family, Free, RefutesFamilies}
-use Rattle.family_terms.specs.FamilyLines.{family_token_words, most_joining}
+use Rattle.text_terms.specs.declared.claim.SolvingJob.TheVariants.{Strip}
+use Rattle.text_terms.specs.declared.claim.Claim.{Claim}
+use Rattle.text_terms.specs.declared.claim.Claim.TheVariants.{LeastHeight, HeightBetween, NoHeight}
+use Rattle.text_terms.specs.Claims.{result_words}
+use Rattle.verdict_terms.specs.FamilyRefutation.{FamilyToken, Plain, Family, Free, RefutesFamilies}
+use Rattle.verdict_terms.specs.FamilyLines.{family_token_words, most_joining}
 use Rattle.answer_terms.specs.Answers.{Lines, claim_status, document_lines, place_lines, token_lines}
 
 -- A refuted height, with the tokens that refute it, and a placed height, with coordinates of a packing.

@@ -3,8 +3,8 @@ use Rattle.std.specs.Prelude.{ℕ, suc, ◌≡◌}
 use Rattle.packing_terms.specs.Packing.{PlainInstance, Fits}
 use Rattle.packing_terms.specs.Goals.{with_last_side, IsLeastHeight}
 use Rattle.packing_terms.specs.Limits.{IsInstance}
-use Rattle.document_terms.specs.declared.claim.Claim.TheVariants.{LeastHeight, HeightBetween}
-use Rattle.document_terms.specs.Claims.{IsHeightBetween}
+use Rattle.text_terms.specs.declared.claim.Claim.TheVariants.{LeastHeight, HeightBetween}
+use Rattle.text_terms.specs.Claims.{IsHeightBetween}
 use Rattle.answer_terms.specs.BoundedLaws.{IsBoundedFor}
 use Rattle.answer_terms.specs.HeightAnswers.{BoundedHeights, BoundedStrip, NoneFits, AreBoundedHeights, IsBoundedStrip}
 use Rattle.answer_terms.specs.HeightAnswers.{height_claim, strip_claim, bounded_strip_text}

@@ -4,8 +4,8 @@ use Rattle.std.specs.Prelude.{ℕ, ◌≡◌, Bool, List, [], Ok, Err}
 use Rattle.packing_terms.specs.Packing.{PlainInstance}
 use Rattle.packing_terms.specs.Limits.{IsInstance}
 use Rattle.packing_terms.specs.Tokens.{PlainToken}
-use Rattle.document_terms.specs.declared.claim.SolvingJob.{SolvingJob}
-use Rattle.document_terms.specs.declared.claim.Claim.{Claim}
+use Rattle.text_terms.specs.declared.claim.SolvingJob.{SolvingJob}
+use Rattle.text_terms.specs.declared.claim.Claim.{Claim}
 use Rattle.verdict_terms.specs.Documents.{Refusal, document_verdict, reduced_verdict}
 use Rattle.verdict_terms.specs.Form.{IsDocument, IsReducedDocument}
 use Rattle.answer_terms.specs.Answers.{answer_text}
@@ -16,13 +16,13 @@ use Rattle.answer_terms.specs.Reduced.{reduced_solved, reduced_text, solving_job
 use Rattle.answer_terms.specs.Solved.{solved}
 use Rattle.answer_terms.specs.Shown.{Shows}
 use Rattle.answer_terms.specs.Explained.{explained_text}
-use Rattle.explained_terms.specs.Steps.{PlainStep}
-use Rattle.explained_terms.specs.Explaining.{Explains}
-use Rattle.explained_documents.specs.declared.kind.DocumentKind.TheVariants.{Explained, Reduced as ReducedKind}
-use Rattle.explained_documents.specs.Kinds.{document_kind}
-use Rattle.explained_documents.specs.Documents.{explained_verdict}
-use Rattle.document_terms.specs.Claims.{job_of}
-use Rattle.document_terms.specs.declared.claim.SolvingJob.TheVariants.{Fit}
+use Rattle.verdict_terms.specs.Steps.{PlainStep}
+use Rattle.verdict_terms.specs.Explaining.{Explains}
+use Rattle.verdict_terms.specs.declared.kind.DocumentKind.TheVariants.{Explained, Reduced as ReducedKind}
+use Rattle.verdict_terms.specs.Kinds.{document_kind}
+use Rattle.verdict_terms.specs.ExplainedDocumentDocuments.{explained_verdict}
+use Rattle.text_terms.specs.Claims.{job_of}
+use Rattle.text_terms.specs.declared.claim.SolvingJob.TheVariants.{Fit}
 
 -- the text is a document of the claim, and the instance in it is this one
 pub record IsDocumentAbout (instance : PlainInstance) (text : List ℕ) (claim : Claim) : Type 0 where

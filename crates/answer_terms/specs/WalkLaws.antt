@@ -2,11 +2,11 @@
 use Rattle.std.specs.Prelude.{ℕ, ◌+◌, ◌-◌, ◌*◌, ◌/◌, ◌^◌, ◌≤◌, ◌≡◌, ◌↔◌, Bool, true, false, length}
 use Rattle.packing_terms.specs.Packing.{PlainInstance, dims, box_count}
 use Rattle.packing_terms.specs.Limits.{IsInternalInstance}
-use Rattle.front_terms.specs.declared.answers.FrontVerdict.TheVariants.{Good}
-use Rattle.front_terms.specs.Fronts.{IsClaimed}
+use Rattle.verdict_terms.specs.declared.front_answers.FrontVerdict.TheVariants.{Good}
+use Rattle.verdict_terms.specs.Fronts.{IsClaimed}
 use Rattle.answer_terms.specs.Walks.{PlainFront, sizes, front_walk}
 use Rattle.answer_terms.specs.Asked.{HasContainerPastBudget}
-use Rattle.front_terms.specs.Verdicts.{front_verdict, points_named}
+use Rattle.verdict_terms.specs.Verdicts.{front_verdict, points_named}
 use Rattle.answer_terms.specs.WalkLines.{front_lines}
 
 -- the lines of a walk are good

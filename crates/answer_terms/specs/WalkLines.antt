@@ -1,6 +1,6 @@
 -- The lines that a walk has.
 use Rattle.std.specs.Prelude.{ℕ, ◌==◌, cond, List, [], ◌∷◌, ◌++◌, map}
-use Rattle.front_terms.specs.Lines.{PlainLine, CornerAt, PointAt, PlaceAt, TreeToken}
+use Rattle.verdict_terms.specs.Lines.{PlainLine, CornerAt, PointAt, PlaceAt, TreeToken}
 use Rattle.answer_terms.specs.Walks.{PlainCorner, PlainPoint, PlainFront}
 
 -- a corner with its tree

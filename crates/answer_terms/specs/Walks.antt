@@ -10,7 +10,7 @@ use Rattle.packing_terms.specs.Tokens.{PlainToken}
 use Rattle.tree_terms.specs.Trees.{outcome, under_budget}
 use Rattle.tree_terms.specs.ClassTree.{class_tree}
 use Rattle.tree_terms.specs.Levels.{PlainLevel, PlacedBy, RefutedBy, SpentAt, PlainReached, bisect_levels, level_by}
-use Rattle.front_terms.specs.Fronts.{with_container}
+use Rattle.verdict_terms.specs.Fronts.{with_container}
 
 -- a container that is refuted by the tokens
 pub record PlainCorner : Type 0 where

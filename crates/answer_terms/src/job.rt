@@ -1,6 +1,6 @@
 //! The jobs that answer an instance with a document.
 
-use document_terms::SolvingJob;
+use text_terms::SolvingJob;
 
 /// A job whose trees can begin with the symmetry facts of the instance.
 #[derive(Clone, Copy, Debug, PartialEq, Eq)]

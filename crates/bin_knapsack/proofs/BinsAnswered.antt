@@ -11,7 +11,7 @@ use Rattle.packing_terms.proofs.Internal.{internal_sides}
 use Rattle.packing_terms.proofs.Neighbours.{fits_in_more}
 use Rattle.packing_terms.proofs.BinsRefuted.{none_fits_bins}
 use Rattle.packing_terms.proofs.TooLarge.{too_large}
-use Rattle.scale_terms.proofs.Excess.{excess_law}
+use Rattle.packing_terms.proofs.Excess.{excess_law}
 use Rattle.tree_terms.specs.OuterSearch.{AreBinNumbers}
 use Rattle.tree_terms.specs.Levels.{PlainReached, HasBothCertificates, first_bins, bin_run}
 use Rattle.tree_terms.specs.RunEnds.{IsRisingEnd}

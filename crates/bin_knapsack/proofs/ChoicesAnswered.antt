@@ -8,7 +8,7 @@ use Rattle.packing_terms.specs.OuterRefutation.{IsValueRefutation}
 use Rattle.packing_terms.proofs.Internal.{internal_sides}
 use Rattle.packing_terms.proofs.Neighbours.{reaches_lower}
 use Rattle.packing_terms.proofs.ValueRefuted.{none_reaches}
-use Rattle.scale_terms.proofs.Excess.{excess_law}
+use Rattle.packing_terms.proofs.Excess.{excess_law}
 use Rattle.tree_terms.specs.OuterSearch.{AreTakenNumbers}
 use Rattle.tree_terms.specs.Levels.{PlainReached, HasBothCertificates, first_values, value_run}
 use Rattle.tree_terms.specs.RunEnds.{IsFallingEnd}

@@ -8,7 +8,7 @@ use Rattle.packing_terms.specs.Sums.{sum_below}
 use Rattle.packing_terms.specs.Goals.{FitsInBins}
 use Rattle.packing_terms.specs.OuterRefutation.{Bins}
 use Rattle.packing_terms.proofs.Internal.{internal_sides, some_dimension}
-use Rattle.scale_terms.proofs.Excess.{excess_law}
+use Rattle.packing_terms.proofs.Excess.{excess_law}
 use Rattle.tree_terms.specs.Trees.{SearchTree, node_at, PlainOutcome, Decided, Past, Verdict, Yes, No, outcome}
 use Rattle.tree_terms.specs.Trees.{count_of, under_budget}
 use Rattle.tree_terms.specs.Search.{IsYesVerdict}

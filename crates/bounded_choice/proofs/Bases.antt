@@ -6,13 +6,13 @@ use Rattle.packing_terms.specs.Packing.{PlainInstance}
 use Rattle.packing_terms.specs.Limits.{IsInternalInstance}
 use Rattle.packing_terms.specs.Tokens.{PlainToken}
 use Rattle.text_terms.specs.declared.settings.Settings.{Settings}
-use Rattle.document_terms.specs.Claims.{max_worth}
+use Rattle.text_terms.specs.Claims.{max_worth}
 use Rattle.tree_terms.specs.Levels.{PlainReached, value_run, first_values}
 use Rattle.tree_terms.proofs.FirstLevels.{value_above, value_zero}
 use Rattle.tree_terms.proofs.SpentRuns.{value_end}
-use Rattle.bounded_terms.specs.BoundedRefutation.{BoundedToken as PlainBounded, Plain as PlainPlain, PricedOut as PlainPriced}
-use Rattle.bounded_terms.specs.BoundedRefutation.{Exchange as PlainExchange}
-use Rattle.bounded_terms.proofs.BoundedSound.{plain_is_bounded}
+use Rattle.verdict_terms.specs.BoundedRefutation.{BoundedToken as PlainBounded, Plain as PlainPlain, PricedOut as PlainPriced}
+use Rattle.verdict_terms.specs.BoundedRefutation.{Exchange as PlainExchange}
+use Rattle.verdict_terms.proofs.BoundedSound.{plain_is_bounded}
 use Rattle.answer_terms.specs.BoundedAnswers.{BoundedAnswer, IsBoundedAnswer, HaveParameters}
 use Rattle.bounded_tokens.specs.declared.token.BoundedToken.{BoundedToken}
 use Rattle.bounded_tokens.specs.Plain.{plain_bounded}

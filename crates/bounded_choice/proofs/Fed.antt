@@ -9,11 +9,11 @@ use Rattle.packing_terms.specs.Results.{◌>>=◌}
 use Rattle.packing_terms.specs.OuterRefutation.{Choice as BoxChoice, no_choice}
 use Rattle.packing_terms.specs.OuterFeeding.{OpenNode}
 use Rattle.packing_terms.specs.OuterPaths.{OuterView, Whole, On, At, Inside, open_nodes, choices_with}
-use Rattle.check_terms.specs.declared.answers.RefuseCode.{RefuseCode}
-use Rattle.bounded_terms.specs.BoundedRefutation.{BoundedToken as PlainBounded, IsBoundedRefutation}
-use Rattle.bounded_terms.specs.BoundedJudging.{bounded_after_all}
-use Rattle.bounded_terms.specs.BoundedPaths.{bounded_view_after, stands_for}
-use Rattle.bounded_terms.proofs.BoundedJudged.{bounded_refutes}
+use Rattle.verdict_terms.specs.declared.check_answers.RefuseCode.{RefuseCode}
+use Rattle.verdict_terms.specs.BoundedRefutation.{BoundedToken as PlainBounded, IsBoundedRefutation}
+use Rattle.verdict_terms.specs.BoundedJudging.{bounded_after_all}
+use Rattle.verdict_terms.specs.BoundedPaths.{bounded_view_after, stands_for}
+use Rattle.verdict_terms.proofs.BoundedJudged.{bounded_refutes}
 use Rattle.bounded_tokens.specs.declared.token.BoundedToken.{BoundedToken}
 use Rattle.bounded_tokens.specs.Plain.{plain_bounded}
 use Rattle.outer_check.specs.Outers.{PlainOuter, ForValue, fed_by, is_whole, left_open}

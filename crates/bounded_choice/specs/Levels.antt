@@ -5,7 +5,7 @@ use Rattle.text_terms.specs.declared.settings.Settings.{Settings}
 use Rattle.tree_terms.specs.Levels.{PlainReached, value_run}
 use Rattle.tree_terms.specs.OuterSearch.{AreTakenNumbers}
 use Rattle.tree_terms.specs.RunEnds.{HasValuePastBudget}
-use Rattle.bounded_terms.specs.BoundedRefutation.{BoundedToken as PlainBounded, Plain as PlainPlain, IsBoundedRefutation}
+use Rattle.verdict_terms.specs.BoundedRefutation.{BoundedToken as PlainBounded, Plain as PlainPlain, IsBoundedRefutation}
 use Rattle.bounded_tokens.specs.declared.token.BoundedToken.{BoundedToken}
 use Rattle.bounded_tokens.specs.Plain.{plain_bounded_tokens}
 use Rattle.answer_terms.specs.BoundedAnswers.{BoundedAnswer, IsBoundedAnswer, HaveParameters}

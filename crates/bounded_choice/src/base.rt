@@ -1,6 +1,6 @@
 //! The levels of the run without priced leaves, which the search begins with.
 ghost use Rattle.std.specs.Prelude.{◌≡◌, ◌≤◌, false, true, IfOk};
-ghost use Rattle.document_terms.specs.Claims.{max_worth};
+ghost use Rattle.text_terms.specs.Claims.{max_worth};
 ghost use Rattle.bounded_choice.specs.Levels.{plain_levels, levels_told, refuted_by, AreLevels, IsOpenOnlyPast};
 
 use crate::levels::{ValueLevels, ValueProof};

@@ -1,6 +1,6 @@
 //! The test of a proposed bounded refutation.
 ghost use Rattle.std.specs.Prelude.{◌≡◌, ◌∷◌, [], IfOk, MatchBool};
-ghost use Rattle.bounded_terms.specs.BoundedRefutation.{IsBoundedRefutation};
+ghost use Rattle.verdict_terms.specs.BoundedRefutation.{IsBoundedRefutation};
 ghost use Rattle.bounded_tokens.specs.Plain.{plain_bounded, plain_bounded_tokens};
 ghost use Rattle.answer_terms.specs.BoundedAnswers.{HaveParameters};
 

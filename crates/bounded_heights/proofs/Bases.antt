@@ -8,7 +8,7 @@ use Rattle.packing_terms.specs.Tokens.{PlainToken}
 use Rattle.packing_terms.specs.Refutation.{Refutes}
 use Rattle.text_terms.specs.declared.settings.Settings.{Settings}
 use Rattle.tree_terms.specs.Levels.{PlainReached, height_run}
-use Rattle.family_terms.proofs.FamilySound.{plain_refutes}
+use Rattle.verdict_terms.proofs.FamilySound.{plain_refutes}
 use Rattle.answer_terms.specs.HeightAnswers.{BoundedStrip as PlainStrip, AreBoundedHeights, IsBoundedStrip}
 use Rattle.answer_terms.specs.HeightAnswers.{AreJoining}
 use Rattle.strip_solver.specs.declared.strip.Strip.{Strip}

@@ -5,10 +5,10 @@ use Rattle.std.specs.Prelude.{MatchBool}
 use Rattle.std.proofs.lemmas.Bool.{true≢false}
 use Rattle.std.proofs.lemmas.List.{map_push, take_more}
 use Rattle.packing_terms.specs.Packing.{PlainInstance}
-use Rattle.check_terms.specs.Checking.{Checked, starting, is_whole}
-use Rattle.family_terms.specs.FamilyRefutation.{FamilyToken as PlainFamily, FamilyNode, Free, RefutesFamilies}
-use Rattle.family_terms.specs.FamilyChecking.{family_checked, family_checked_all}
-use Rattle.family_terms.proofs.FamilyTrees.{families_in_trees}
+use Rattle.verdict_terms.specs.Checking.{Checked, starting, is_whole}
+use Rattle.verdict_terms.specs.FamilyRefutation.{FamilyToken as PlainFamily, FamilyNode, Free, RefutesFamilies}
+use Rattle.verdict_terms.specs.FamilyChecking.{family_checked, family_checked_all}
+use Rattle.verdict_terms.proofs.FamilyTrees.{families_in_trees}
 use Rattle.family_tokens.specs.declared.token.FamilyToken.{FamilyToken}
 use Rattle.family_tokens.specs.Plain.{plain_family}
 use Rattle.family_check.specs.FamilyRefuters.{PlainFamilyRefuter, fed_family}

@@ -1,8 +1,8 @@
 //! The test of a proposed refutation with families.
 ghost use Rattle.std.specs.Prelude.{◌≡◌, ◌≤◌, ◌∷◌, [], true, length, IfOk, IfSome, MatchBool};
 ghost use Rattle.packing_terms.specs.Limits.{max_height};
-ghost use Rattle.family_terms.specs.FamilyRefutation.{Free, RefutesFamilies};
-ghost use Rattle.family_terms.specs.FamilyLines.{most_joining};
+ghost use Rattle.verdict_terms.specs.FamilyRefutation.{Free, RefutesFamilies};
+ghost use Rattle.verdict_terms.specs.FamilyLines.{most_joining};
 ghost use Rattle.family_tokens.specs.Plain.{plain_family, plain_family_tokens};
 ghost use Rattle.answer_terms.specs.HeightAnswers.{AreJoining};
 ghost use Rattle.bounded_heights.specs.Heights.{AreRefutedBy};

@@ -3,9 +3,9 @@ use Rattle.std.proofs.Common.{◌≡◌, ℕ, ◌≤◌, sym, ap, ◌∙◌, ari
 use Rattle.std.proofs.Common.{None, codes}
 use Rattle.std.specs.Prelude.{option_map}
 use Rattle.text_terms.specs.Lines.{Line, same_bytes}
-use Rattle.document_terms.specs.TokenLines.{token_of, line_token}
-use Rattle.bounded_terms.specs.BoundedRefutation.{Plain}
-use Rattle.bounded_terms.specs.BoundedLines.{priced_of, exchange_of, bounded_token_of, bounded_line_token}
+use Rattle.text_terms.specs.TokenLines.{token_of, line_token}
+use Rattle.verdict_terms.specs.BoundedRefutation.{Plain}
+use Rattle.verdict_terms.specs.BoundedLines.{priced_of, exchange_of, bounded_token_of, bounded_line_token}
 
 -- a line without a bad byte is what its words are
 calm_line : (d : ℕ) (line : Line) → line.bad ≡ false → bounded_line_token d line ≡ bounded_token_of d line.words

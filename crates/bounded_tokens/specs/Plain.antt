@@ -1,7 +1,7 @@
 -- Tokens as the plain data of the definitions.
 use Rattle.std.specs.Prelude.{List, map}
-use Rattle.bounded_terms.specs.BoundedRefutation.{BoundedToken as PlainBounded, Plain as PlainPlain}
-use Rattle.bounded_terms.specs.BoundedRefutation.{PricedOut as PlainPricedOut, Exchange as PlainExchange}
+use Rattle.verdict_terms.specs.BoundedRefutation.{BoundedToken as PlainBounded, Plain as PlainPlain}
+use Rattle.verdict_terms.specs.BoundedRefutation.{PricedOut as PlainPricedOut, Exchange as PlainExchange}
 use Rattle.proof_tree.specs.Plain.{plain_token}
 use Rattle.bounded_tokens.specs.declared.token.BoundedToken.{BoundedToken}
 use Rattle.bounded_tokens.specs.declared.token.BoundedToken.TheVariants.{Plain, PricedOut, Exchange}

@@ -1,9 +1,9 @@
 //! The token that a line is.
 ghost use Rattle.std.specs.Prelude.{◌≡◌, ◌≤◌, length, drop, option_map};
 ghost use Rattle.text_terms.specs.Feeding.{ended_line};
-ghost use Rattle.document_terms.specs.TokenLines.{line_token};
-ghost use Rattle.bounded_terms.specs.BoundedRefutation.{Plain};
-ghost use Rattle.bounded_terms.specs.BoundedLines.{priced_of, exchange_of, bounded_line_token};
+ghost use Rattle.text_terms.specs.TokenLines.{line_token};
+ghost use Rattle.verdict_terms.specs.BoundedRefutation.{Plain};
+ghost use Rattle.verdict_terms.specs.BoundedLines.{priced_of, exchange_of, bounded_line_token};
 ghost use Rattle.bounded_tokens.specs.Plain.{plain_bounded};
 
 use crate::BoundedToken;

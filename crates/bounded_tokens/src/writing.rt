@@ -3,9 +3,9 @@ ghost use Rattle.std.specs.Prelude.{◌∷◌, ◌++◌, [], map, codes};
 ghost use Rattle.std.specs.List.{flat_map};
 ghost use Rattle.std.specs.Fmt.{decimal};
 ghost use Rattle.pack_streams.specs.Writing.{Continues, Writes};
-ghost use Rattle.document_terms.specs.TokenLines.{function_words};
+ghost use Rattle.text_terms.specs.TokenLines.{function_words};
 ghost use Rattle.instance_text.specs.Writing.{after_spaces};
-ghost use Rattle.bounded_terms.specs.BoundedLines.{bounded_token_line};
+ghost use Rattle.verdict_terms.specs.BoundedLines.{bounded_token_line};
 ghost use Rattle.bounded_tokens.specs.Plain.{plain_bounded};
 
 use crate::BoundedToken;

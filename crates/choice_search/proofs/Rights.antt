@@ -7,7 +7,7 @@ use Rattle.packing_terms.specs.Limits.{IsInternalInstance}
 use Rattle.packing_terms.specs.Goals.{ReachesValue}
 use Rattle.packing_terms.specs.OuterRefutation.{Choice, no_choice}
 use Rattle.packing_terms.proofs.Internal.{internal_sides, some_dimension}
-use Rattle.scale_terms.proofs.Excess.{excess_law}
+use Rattle.packing_terms.proofs.Excess.{excess_law}
 use Rattle.tree_terms.specs.Trees.{SearchTree, node_at, PlainOutcome, Decided, Past, Verdict, Yes, No, outcome}
 use Rattle.tree_terms.specs.Trees.{count_of, under_budget}
 use Rattle.tree_terms.specs.Search.{IsYesVerdict}

@@ -6,10 +6,10 @@ use Rattle.packing_terms.specs.declared.Exclusion.{Exclusion}
 use Rattle.packing_terms.specs.Packing.{PlainInstance}
 use Rattle.packing_terms.specs.Exclusions.{Exclusions, is_of, excludes}
 use Rattle.packing_terms.proofs.Sets.{or_true, of_own, excludes_symmetric}
-use Rattle.rule_terms.specs.Rounds.{closure}
-use Rattle.rule_terms.specs.Steps.{with_exclusion}
-use Rattle.rule_terms.proofs.Applied.{with_cases, with_keeps, with_own}
-use Rattle.rule_terms.proofs.RoundsLemmas.{closure_is}
+use Rattle.packing_terms.specs.Rounds.{closure}
+use Rattle.packing_terms.specs.Steps.{with_exclusion}
+use Rattle.packing_terms.proofs.Applied.{with_cases, with_keeps, with_own}
+use Rattle.packing_terms.proofs.RoundsLemmas.{closure_is}
 use Rattle.rule_closure.specs.Closes.{IsClosure}
 use Rattle.tree_terms.proofs.NodeSteps.{same_sets}
 use Rattle.class_search.specs.Splits.{with_all}

@@ -6,7 +6,7 @@ use Rattle.packing_terms.specs.declared.Exclusion.{Exclusion}
 use Rattle.packing_terms.specs.Packing.{PlainInstance, Fits, dims, box_count}
 use Rattle.packing_terms.specs.Limits.{IsInternalInstance}
 use Rattle.packing_terms.proofs.Internal.{some_dimension}
-use Rattle.scale_terms.proofs.Excess.{excess_law}
+use Rattle.packing_terms.proofs.Excess.{excess_law}
 use Rattle.tree_terms.specs.Trees.{SearchTree, node_at, PlainOutcome, Decided, Past, Verdict, Yes, No, outcome}
 use Rattle.tree_terms.specs.Trees.{count_of, under_budget}
 use Rattle.packing_terms.specs.Exclusions.{AreAtEdges}

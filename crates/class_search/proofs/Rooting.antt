@@ -12,7 +12,7 @@ use Rattle.packing_terms.specs.Closure.{HasConflict, Derives}
 use Rattle.packing_terms.specs.Scales.{SidesFit}
 use Rattle.packing_terms.specs.Tokens.PlainToken.{Rules}
 use Rattle.packing_terms.proofs.Found.{find_left, find_right}
-use Rattle.rule_terms.specs.Rounds.{has_empty_mask}
+use Rattle.packing_terms.specs.Rounds.{has_empty_mask}
 use Rattle.packing_terms.specs.Sums.{below}
 use Rattle.rule_closure.specs.Closes.{IsClosure}
 use Rattle.tree_terms.specs.Trees.{SearchTree, Refuted, node_at}

@@ -10,7 +10,7 @@ use Rattle.packing_terms.specs.Closure.{IsSubset}
 use Rattle.packing_terms.proofs.Sets.{excludes_right, excludes_symmetric}
 use Rattle.packing_terms.proofs.Found.{find_none}
 use Rattle.packing_terms.proofs.Members.{IsIn}
-use Rattle.rule_terms.specs.Places.{IsOrdered}
+use Rattle.packing_terms.specs.Places.{IsOrdered}
 use Rattle.edge_state.specs.Edges.{oldest}
 use Rattle.edge_state.proofs.Oldest.{oldest_more, oldest_all}
 use Rattle.packing_terms.specs.Rank.{ranked_pairs}

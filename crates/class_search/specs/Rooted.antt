@@ -5,7 +5,7 @@ use Rattle.packing_terms.specs.declared.ScaleFn.{ScaleFn}
 use Rattle.packing_terms.specs.Packing.{PlainInstance, container_side, side}
 use Rattle.packing_terms.specs.Scales.{SidesFit}
 use Rattle.packing_terms.specs.Tokens.PlainToken.{Rules, Scales}
-use Rattle.rule_terms.specs.Applied.{Extends}
+use Rattle.packing_terms.specs.Applied.{Extends}
 use Rattle.rule_closure.specs.Closes.{IsClosure}
 use Rattle.tree_terms.specs.Trees.{SearchTree, Refuted}
 use Rattle.tree_terms.specs.InnerTree.{tree_below}

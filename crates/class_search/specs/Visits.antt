@@ -5,7 +5,7 @@ use Rattle.packing_terms.specs.Packing.{PlainInstance, dims, box_count}
 use Rattle.packing_terms.specs.Exclusions.{excludes}
 use Rattle.packing_terms.specs.Closure.{IsStable}
 use Rattle.packing_terms.specs.Tokens.PlainToken.{Rules}
-use Rattle.rule_terms.specs.Places.{HasNoEmptyMask}
+use Rattle.packing_terms.specs.Places.{HasNoEmptyMask}
 use Rattle.tree_terms.specs.Trees.{SearchTree, Settled as SettledTree, Refuted}
 use Rattle.packing_terms.specs.Rank.{ranked_pairs}
 use Rattle.tree_terms.specs.InnerTree.{is_settled, settled_places, split_at, split_tree, tree_below}

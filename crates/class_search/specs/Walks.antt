@@ -4,7 +4,7 @@ use Rattle.packing_terms.specs.declared.Exclusion.{Exclusion}
 use Rattle.packing_terms.specs.Packing.{PlainInstance, dims}
 use Rattle.packing_terms.specs.Exclusions.{excludes}
 use Rattle.packing_terms.specs.Closure.{IsSubset}
-use Rattle.rule_terms.specs.Places.{HasNoEmptyMask}
+use Rattle.packing_terms.specs.Places.{HasNoEmptyMask}
 use Rattle.edge_state.specs.Edges.{oldest}
 use Rattle.packing_terms.specs.Rank.{ranked_pairs}
 use Rattle.packing_terms.specs.Tokens.{PlainToken}

@@ -3,7 +3,7 @@ ghost use Rattle.std.specs.Prelude.{◌≡◌, IfOk};
 ghost use Rattle.packing_terms.specs.Packing.{dims, box_count};
 ghost use Rattle.packing_terms.specs.Exclusions.{excludes, IsEdgeAmong};
 ghost use Rattle.packing_terms.specs.Closure.{IsStable};
-ghost use Rattle.rule_terms.specs.Places.{HasNoEmptyMask};
+ghost use Rattle.packing_terms.specs.Places.{HasNoEmptyMask};
 
 use crate::random::{instance_of, next, rel_of, sides_of};
 use crate::room::{Room, room_for};

@@ -17,7 +17,7 @@ use Rattle.packing_terms.specs.Scales.{IsLegalScale, SidesFit, scale_image, scal
 use Rattle.packing_terms.specs.Sums.{sum_below}
 use Rattle.packing_terms.specs.Tuples.{is_threshold, thresholds_above, functions_after, has_excess}
 use Rattle.packing_terms.proofs.Members.{IsIn, append_in, map_in, filter_in, range_in}
-use Rattle.scale_terms.proofs.Families.{dual_feasible}
+use Rattle.packing_terms.proofs.Families.{dual_feasible}
 use Rattle.conservative_scales.specs.Within.{within}
 use Rattle.conservative_scales.specs.Partials.{IsPartial, HoldEach}
 use Rattle.conservative_scales.proofs.PartialProducts.{partial_more, partial_excess}

@@ -2,7 +2,7 @@
 use Rattle.std.specs.Prelude.{ℕ, ◌+◌, ◌<◌, List}
 use Rattle.packing_terms.specs.Packing.{PlainInstance, side, place}
 use Rattle.packing_terms.specs.Exclusions.{Exclusions}
-use Rattle.rule_terms.specs.Runs.{IsHeaviestHead}
+use Rattle.packing_terms.specs.Runs.{IsHeaviestHead}
 
 -- in dimension i each of the first k boxes ends where the heaviest chain that ends in it does
 abbrev pub EndsInHeads : PlainInstance → Exclusions → List ℕ → ℕ → ℕ → Type 0

@@ -4,8 +4,8 @@ ghost use Rattle.packing_terms.specs.Packing.{dims, box_count, place, IsPacking}
 ghost use Rattle.packing_terms.specs.Exclusions.{excludes};
 ghost use Rattle.packing_terms.specs.Closure.{IsStable};
 ghost use Rattle.packing_terms.specs.Scales.{SidesFit};
-ghost use Rattle.rule_terms.specs.Places.{HasNoEmptyMask, IsOrdered, IsGreatestEnd};
-ghost use Rattle.rule_terms.specs.Runs.{AreHeaviestHeads};
+ghost use Rattle.packing_terms.specs.Places.{HasNoEmptyMask, IsOrdered, IsGreatestEnd};
+ghost use Rattle.packing_terms.specs.Runs.{AreHeaviestHeads};
 ghost use Rattle.coordinates.specs.Starts.{EndsInHeads};
 
 use box_instances::{Instance, MAX_BOXES};

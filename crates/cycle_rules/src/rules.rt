@@ -1,7 +1,7 @@
 //! CYCLE and ORDER, one instance at a time.
 ghost use Rattle.std.specs.Prelude.{◌≡◌, ◌<◌, [], ◌∷◌};
 ghost use Rattle.packing_terms.specs.Rules.{Cycle, Order, AreBoxesAmong};
-ghost use Rattle.rule_terms.specs.Applied.{IsAppliedAmong, KeepsPackingsAmong};
+ghost use Rattle.packing_terms.specs.Applied.{IsAppliedAmong, KeepsPackingsAmong};
 
 use edge_state::{EdgeState, Mask, Rel};
 use orientation_rules::keep_only;

@@ -8,7 +8,7 @@ use Rattle.pack_streams.specs.Faults.{exactly}
 use Rattle.verdict_terms.specs.declared.heading.Heading.{Heading}
 use Rattle.verdict_terms.specs.Documents.{Refusal, headed_verdict}
 use Rattle.verdict_terms.specs.Fed.{EndsRefused}
-use Rattle.document_terms.specs.declared.claim.Claim.{Claim}
+use Rattle.text_terms.specs.declared.claim.Claim.{Claim}
 use Rattle.verdict_terms.proofs.Stays.{refusals_stay}
 use Rattle.verdict_terms.proofs.FormGiven.{documents_have_form}
 use Rattle.verdict_terms.proofs.True.{documents_are_true}

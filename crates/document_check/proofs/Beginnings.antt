@@ -5,18 +5,18 @@ use Rattle.packing_terms.specs.declared.Exclusion.{Exclusion}
 use Rattle.packing_terms.specs.Exclusions.{AreAtEdges}
 use Rattle.packing_terms.specs.Limits.{IsInternalInstance}
 use Rattle.packing_terms.proofs.Internal.{some_dimension}
-use Rattle.symmetry_terms.proofs.Members.{facts_at_edges}
-use Rattle.symmetry_terms.proofs.Levels.{level_facts}
+use Rattle.packing_terms.proofs.SymmetryMembers.{facts_at_edges}
+use Rattle.packing_terms.proofs.Levels.{level_facts}
 use Rattle.packing_terms.specs.Packing.{PlainInstance, dims}
 use Rattle.packing_terms.specs.Goals.{with_last_side}
 use Rattle.box_instances.specs.Sets.{all_boxes}
-use Rattle.check_terms.specs.Checking.{starting}
+use Rattle.verdict_terms.specs.Checking.{starting}
 use Rattle.refutation_check.specs.Refuters.{PlainRefuter}
 use Rattle.refutation_check.proofs.Whole.{whole_set}
 use Rattle.verdict_terms.specs.declared.heading.Heading.{Heading}
 use Rattle.verdict_terms.specs.declared.heading.Heading.TheVariants.{Answer, Reduced, Bounded}
-use Rattle.document_terms.specs.declared.claim.Claim.{Claim}
-use Rattle.document_terms.specs.declared.claim.Claim.TheVariants.{Fitting}
+use Rattle.text_terms.specs.declared.claim.Claim.{Claim}
+use Rattle.text_terms.specs.declared.claim.Claim.TheVariants.{Fitting}
 use Rattle.verdict_terms.specs.Stages.{Stage, placed, refutation_goal, claimed, start_exclusions}
 use Rattle.verdict_terms.specs.Stages.Stage.{Placing, Ending}
 use Rattle.verdict_terms.specs.Trees.{Refuted}

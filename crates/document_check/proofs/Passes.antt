@@ -4,7 +4,7 @@ use Rattle.std.proofs.Common.{None, Result, Ok, Err}
 use Rattle.pack_streams.specs.Faults.{FaultCount, Stays}
 use Rattle.pack_streams.proofs.Faults.{stays_here, stays_on, fails_then}
 use Rattle.text_terms.specs.Feeding.{Lexer, new_lexer}
-use Rattle.document_terms.specs.declared.claim.Claim.{Claim}
+use Rattle.text_terms.specs.declared.claim.Claim.{Claim}
 use Rattle.verdict_terms.specs.declared.reason.Reason.{Reason}
 use Rattle.verdict_terms.specs.declared.reason.Reason.TheVariants.{TooShort}
 use Rattle.verdict_terms.specs.declared.heading.Heading.{Heading}

@@ -1,7 +1,7 @@
 -- What the audit of bytes in memory comes to.
 use Rattle.std.specs.Prelude.{ℕ, ◌≡◌, List, Ok, Err}
-use Rattle.document_terms.specs.declared.claim.Claim.{Claim}
-use Rattle.document_terms.specs.Claims.{IsTrueOf}
+use Rattle.text_terms.specs.declared.claim.Claim.{Claim}
+use Rattle.text_terms.specs.Claims.{IsTrueOf}
 use Rattle.verdict_terms.specs.declared.heading.Heading.{Heading}
 use Rattle.verdict_terms.specs.Documents.{headed_verdict}
 use Rattle.verdict_terms.specs.Form.{IsHeadedDocument}

@@ -1,7 +1,7 @@
 -- What a claim says of a value that isn't reached.
 use Rattle.std.specs.Prelude.{ℕ, ◌≡◌}
 use Rattle.packing_terms.specs.Packing.{PlainInstance}
-use Rattle.document_terms.specs.declared.claim.Claim.{Claim}
+use Rattle.text_terms.specs.declared.claim.Claim.{Claim}
 use Rattle.verdict_terms.specs.declared.heading.Heading.TheVariants.{Answer, Reduced}
 use Rattle.verdict_terms.specs.Stages.{refutation_goal, value_refuted}
 use Rattle.verdict_terms.specs.Trees.{ToReach}

@@ -6,10 +6,10 @@ ghost use Rattle.document_check.specs.Audited.{IsAudited, IsTrueAudit};
 ghost use Rattle.document_check.specs.Checked.{max_check_bytes};
 
 use crate::check::{CheckEnd, check_document};
-use document_terms::Claim;
 use pack_streams::{ReadAnswer, Source};
 use std::alloc::Global;
 use std::marker::Model;
+use text_terms::Claim;
 use verdict_terms::{Heading, Reason};
 
 /// What the audit of a document came to.

@@ -12,10 +12,10 @@ use crate::position::Position;
 use crate::showing::read_head;
 use crate::values::check_values;
 use document_lines::{Claimed, HeadReader};
-use document_terms::{Claim, SolvingJob};
 use instance_text::LineLexer;
 use pack_streams::Source;
 use std::alloc::Global;
+use text_terms::{Claim, SolvingJob};
 use verdict_terms::{Heading, Reason};
 
 /// What the check of a document came to.

@@ -2,8 +2,8 @@
 //! of another height, and `end`.
 ghost use Rattle.std.specs.Prelude.{◌≡◌, ◌≤◌, None, []};
 ghost use Rattle.packing_terms.specs.Packing.{dims};
-ghost use Rattle.check_terms.specs.Checking.{starting};
-ghost use Rattle.family_terms.specs.FamilyRefutation.{Free};
+ghost use Rattle.verdict_terms.specs.Checking.{starting};
+ghost use Rattle.verdict_terms.specs.FamilyRefutation.{Free};
 ghost use Rattle.verdict_terms.specs.Stages.Stage.{ProvingFamilies, Gathering};
 ghost use Rattle.document_lines.specs.Gatherings.{before_families, behind_families};
 ghost use Rattle.document_check.specs.Passes.{IsPosition, IsCheckedFrom, Goes};
@@ -12,10 +12,10 @@ use crate::check::CheckEnd;
 use crate::position::{Position, give_lines};
 use box_instances::Instance;
 use document_lines::{FamilyEndReader, FamilyReader, LineJudge};
-use document_terms::Claim;
 use family_check::FamilyRefuter;
 use pack_streams::Source;
 use std::alloc::Global;
+use text_terms::Claim;
 
 // `proof`, and the tokens of a refutation with families, of an instance of `dim_count` dimensions.
 // `None` says that it is whole.

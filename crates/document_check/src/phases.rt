@@ -21,13 +21,13 @@ use crate::position::{Position, give_lines};
 use crate::showing::{read_exceeding, read_places, read_shares, read_taken};
 use box_instances::{Instance, NoMemory};
 use document_lines::{Claimed, EndReader, LineJudge, TreeChecker, TreeReader};
-use document_terms::Claim;
 use edge_state::Exclusion;
 use outer_check::{Goal, OuterRefuter};
 use pack_streams::Source;
 use refutation_check::Refuter;
 use std::alloc::Global;
 use symmetry_list::facts;
+use text_terms::Claim;
 use verdict_terms::Heading;
 
 // `end`, after places, or after the tree of an instance of `tree_dims` dimensions.

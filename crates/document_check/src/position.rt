@@ -6,9 +6,9 @@ ghost use Rattle.document_check.specs.Passes.{IsPosition, Goes, end_of};
 
 use crate::check::CheckEnd;
 use document_lines::{LineJudge, ReadEnd, take_lines};
-use document_terms::Claim;
 use instance_text::LineLexer;
 use pack_streams::Source;
+use text_terms::Claim;
 use verdict_terms::Reason;
 
 /// Where the reading of a document stands: what is held of the line begun, and how many bytes were

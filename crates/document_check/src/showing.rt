@@ -14,9 +14,9 @@ use box_instances::Instance;
 use document_lines::{
     BinPlaceReader, Claimed, HeadReader, OversizeReader, PlaceReader, TakenReader,
 };
-use document_terms::Claim;
 use pack_streams::Source;
 use std::alloc::Global;
+use text_terms::Claim;
 use verdict_terms::Heading;
 
 /// The lines up to the result line, for a reader that wants the next one.

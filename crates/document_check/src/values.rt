@@ -18,10 +18,10 @@ use crate::position::{Position, give_lines};
 use crate::showing::read_taken;
 use box_instances::Instance;
 use document_lines::{BoundEndReader, BoundReader, Claimed, LineJudge};
-use document_terms::Claim;
 use outer_check::{Goal, OuterRefuter};
 use pack_streams::Source;
 use std::alloc::Global;
+use text_terms::Claim;
 use verdict_terms::Heading;
 
 // A tree that refutes that the instance reaches the value, and `end`.

@@ -3,11 +3,11 @@ use Rattle.std.proofs.Common.{◌≡◌, ℕ, refl, sym, ap, subst, ◌∙◌, B
 use Rattle.packing_terms.specs.Packing.{PlainInstance}
 use Rattle.packing_terms.specs.OuterPaths.{OuterView, Whole, On, At, Inside, open_nodes, choices_with}
 use Rattle.packing_terms.specs.OuterRefutation.{Choice as BoxChoice}
-use Rattle.check_terms.specs.declared.answers.RefuseCode.{RefuseCode}
-use Rattle.check_terms.specs.declared.answers.FeedVerdict.{FeedVerdict}
-use Rattle.bounded_terms.specs.BoundedRefutation.{BoundedToken}
-use Rattle.bounded_terms.specs.BoundedPaths.{stands_for, bounded_view_after}
-use Rattle.bounded_terms.specs.BoundedJudging.{bounded_after}
+use Rattle.verdict_terms.specs.declared.check_answers.RefuseCode.{RefuseCode}
+use Rattle.verdict_terms.specs.declared.check_answers.FeedVerdict.{FeedVerdict}
+use Rattle.verdict_terms.specs.BoundedRefutation.{BoundedToken}
+use Rattle.verdict_terms.specs.BoundedPaths.{stands_for, bounded_view_after}
+use Rattle.verdict_terms.specs.BoundedJudging.{bounded_after}
 use Rattle.outer_check.specs.Outers.{PlainOuter, OuterTree, ForBins, ForValue, fed_by, answered, answered_by}
 use Rattle.outer_check.specs.Outers.{left_open, is_whole_view}
 use Rattle.outer_check.specs.Bounded.{bounded_fed, bounded_tree_refusal}

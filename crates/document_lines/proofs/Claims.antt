@@ -2,11 +2,11 @@
 use Rattle.std.proofs.Common.{◌≡◌, ℕ, ◌≤◌, refl, arith, List, [], ◌∷◌, length, get_or, Err, codes}
 use Rattle.packing_terms.specs.Packing.{PlainInstance, box_count}
 use Rattle.packing_terms.specs.Limits.{max_height}
-use Rattle.document_terms.specs.Claims.{max_worth}
-use Rattle.document_terms.specs.declared.claim.Claim.TheVariants.{NoHeight, LeastHeight, HeightBetween, NoBins}
-use Rattle.document_terms.specs.declared.claim.Claim.TheVariants.{LeastBins, BinsBetween, GreatestValue, ValueBetween}
-use Rattle.document_terms.specs.declared.claim.SolvingJob.{SolvingJob}
-use Rattle.document_terms.specs.declared.claim.SolvingJob.TheVariants.{Fit, Strip, Bins, Knapsack}
+use Rattle.text_terms.specs.Claims.{max_worth}
+use Rattle.text_terms.specs.declared.claim.Claim.TheVariants.{NoHeight, LeastHeight, HeightBetween, NoBins}
+use Rattle.text_terms.specs.declared.claim.Claim.TheVariants.{LeastBins, BinsBetween, GreatestValue, ValueBetween}
+use Rattle.text_terms.specs.declared.claim.SolvingJob.{SolvingJob}
+use Rattle.text_terms.specs.declared.claim.SolvingJob.TheVariants.{Fit, Strip, Bins, Knapsack}
 use Rattle.verdict_terms.specs.Reasons.{form}
 use Rattle.verdict_terms.specs.Results.{none_claim, one_claim, two_claim, claim_of}
 use Rattle.verdict_terms.specs.Stages.{rest_of}

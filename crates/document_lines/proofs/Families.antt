@@ -1,11 +1,11 @@
 -- A token that was fed to a refuter of trees with families is a step of its tree.
 use Rattle.std.proofs.Common.{◌≡◌, refl, true, List, [], ◌∷◌, Option, Some, None, Result, Ok, Err}
 use Rattle.packing_terms.specs.Packing.{PlainInstance}
-use Rattle.check_terms.specs.declared.answers.RefuseCode.{RefuseCode}
-use Rattle.check_terms.specs.declared.answers.FeedVerdict.{FeedVerdict}
-use Rattle.check_terms.specs.Checking.{answered, checked_by}
-use Rattle.family_terms.specs.FamilyRefutation.{FamilyToken, FamilyNode}
-use Rattle.family_terms.specs.FamilyChecking.{families_after}
+use Rattle.verdict_terms.specs.declared.check_answers.RefuseCode.{RefuseCode}
+use Rattle.verdict_terms.specs.declared.check_answers.FeedVerdict.{FeedVerdict}
+use Rattle.verdict_terms.specs.Checking.{answered, checked_by}
+use Rattle.verdict_terms.specs.FamilyRefutation.{FamilyToken, FamilyNode}
+use Rattle.verdict_terms.specs.FamilyChecking.{families_after}
 use Rattle.family_check.specs.FamilyRefuters.{PlainFamilyRefuter, fed_family}
 use Rattle.document_lines.specs.Gatherings.{is_family_open, FeedsFamily}
 

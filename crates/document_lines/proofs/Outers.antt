@@ -5,10 +5,10 @@ use Rattle.packing_terms.specs.Tokens.{PlainToken}
 use Rattle.packing_terms.specs.OuterPaths.{OuterView, Whole, On, At, Inside, open_nodes, bins_with, choices_with}
 use Rattle.packing_terms.specs.OuterPaths.{view_after, bin_step, choice_step}
 use Rattle.packing_terms.specs.OuterRefutation.{Bins as UsedBins, Choice as BoxChoice}
-use Rattle.check_terms.specs.declared.answers.RefuseCode.{RefuseCode}
-use Rattle.check_terms.specs.declared.answers.FeedVerdict.{FeedVerdict}
-use Rattle.check_terms.specs.OuterJudging.{bin_refusal, value_refusal}
-use Rattle.check_terms.specs.Checking.{bins_after, value_after}
+use Rattle.verdict_terms.specs.declared.check_answers.RefuseCode.{RefuseCode}
+use Rattle.verdict_terms.specs.declared.check_answers.FeedVerdict.{FeedVerdict}
+use Rattle.verdict_terms.specs.OuterJudging.{bin_refusal, value_refusal}
+use Rattle.verdict_terms.specs.Checking.{bins_after, value_after}
 use Rattle.outer_check.specs.Outers.{PlainOuter, OuterTree, ForBins, ForValue, fed, fed_by, answered, answered_by}
 use Rattle.outer_check.specs.Outers.{judged_at, left_open, is_whole_view}
 use Rattle.outer_check.proofs.Opened.{bins_opened, value_opened}

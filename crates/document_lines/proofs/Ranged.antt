@@ -1,11 +1,11 @@
 -- A claim that is read is within the ends of its numbers.
 use Rattle.std.proofs.Common.{◌≡◌, ℕ, List, Ok}
 use Rattle.packing_terms.specs.Packing.{PlainInstance}
-use Rattle.document_terms.specs.declared.claim.Claim.{Claim}
-use Rattle.document_terms.specs.declared.claim.Claim.TheVariants.{Fitting, NotFitting, LeastHeight, HeightBetween}
-use Rattle.document_terms.specs.declared.claim.Claim.TheVariants.{NoHeight, LeastBins, BinsBetween, NoBins}
-use Rattle.document_terms.specs.declared.claim.Claim.TheVariants.{GreatestValue, ValueBetween}
-use Rattle.document_terms.specs.declared.claim.SolvingJob.{SolvingJob}
+use Rattle.text_terms.specs.declared.claim.Claim.{Claim}
+use Rattle.text_terms.specs.declared.claim.Claim.TheVariants.{Fitting, NotFitting, LeastHeight, HeightBetween}
+use Rattle.text_terms.specs.declared.claim.Claim.TheVariants.{NoHeight, LeastBins, BinsBetween, NoBins}
+use Rattle.text_terms.specs.declared.claim.Claim.TheVariants.{GreatestValue, ValueBetween}
+use Rattle.text_terms.specs.declared.claim.SolvingJob.{SolvingJob}
 use Rattle.verdict_terms.specs.Form.{IsResult}
 use Rattle.verdict_terms.specs.Results.{claim_of}
 use Rattle.verdict_terms.proofs.ResultsTold.{result_told}

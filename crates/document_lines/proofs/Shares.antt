@@ -10,7 +10,7 @@ use Rattle.std.proofs.Math.Nat.{suc-mul}
 use Rattle.packing_terms.specs.Packing.{PlainInstance, dims, box_count, side, container_side}
 use Rattle.packing_terms.specs.Scales.{SidesFit}
 use Rattle.packing_terms.proofs.TooLarge.{too_large}
-use Rattle.document_terms.specs.declared.claim.Claim.{Claim}
+use Rattle.text_terms.specs.declared.claim.Claim.{Claim}
 use Rattle.verdict_terms.specs.declared.heading.Heading.TheVariants.{Answer}
 use Rattle.verdict_terms.specs.declared.reason.Reason.{Reason}
 use Rattle.verdict_terms.specs.Numbers.{coordinates}

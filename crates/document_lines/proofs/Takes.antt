@@ -7,8 +7,8 @@ use Rattle.std.proofs.lemmas.List.{length-append, length-drop, take_all}
 use Rattle.std.proofs.Math.Nat.{suc-mul}
 use Rattle.packing_terms.specs.Packing.{PlainInstance, dims, box_count}
 use Rattle.packing_terms.specs.Goals.{IsBoxSet}
-use Rattle.check_terms.specs.Judging.{names_box}
-use Rattle.document_terms.specs.declared.claim.Claim.{Claim}
+use Rattle.verdict_terms.specs.Judging.{names_box}
+use Rattle.text_terms.specs.declared.claim.Claim.{Claim}
 use Rattle.verdict_terms.specs.declared.heading.Heading.{Heading}
 use Rattle.verdict_terms.specs.Reasons.{range}
 use Rattle.verdict_terms.specs.Numbers.{coordinates}

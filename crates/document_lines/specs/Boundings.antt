@@ -4,11 +4,11 @@ use Rattle.packing_terms.specs.Packing.{PlainInstance, dims}
 use Rattle.packing_terms.specs.OuterRefutation.{Choice as BoxChoice}
 use Rattle.packing_terms.specs.OuterFeeding.{OpenNode}
 use Rattle.packing_terms.specs.OuterPaths.{open_nodes, choices_with}
-use Rattle.check_terms.specs.declared.answers.FeedVerdict.{FeedVerdict}
-use Rattle.check_terms.specs.declared.answers.FeedVerdict.TheVariants.{More, Done, Refused}
-use Rattle.document_terms.specs.declared.claim.Claim.{Claim}
-use Rattle.bounded_terms.specs.BoundedRefutation.{BoundedToken}
-use Rattle.bounded_terms.specs.BoundedJudging.{bounded_after}
+use Rattle.verdict_terms.specs.declared.check_answers.FeedVerdict.{FeedVerdict}
+use Rattle.verdict_terms.specs.declared.check_answers.FeedVerdict.TheVariants.{More, Done, Refused}
+use Rattle.text_terms.specs.declared.claim.Claim.{Claim}
+use Rattle.verdict_terms.specs.BoundedRefutation.{BoundedToken}
+use Rattle.verdict_terms.specs.BoundedJudging.{bounded_after}
 use Rattle.outer_check.specs.Outers.{PlainOuter, OuterTree, ForBins, ForValue}
 use Rattle.verdict_terms.specs.Stages.{Stage, bounding_line}
 use Rattle.verdict_terms.specs.Stages.Stage.{Bounding, Ended}

@@ -1,7 +1,7 @@
 -- The checkers of trees.
 use Rattle.std.specs.Prelude.{Bool, true, false, not, List, [], ◌∷◌, Option, Some, None}
 use Rattle.packing_terms.specs.Goals.{subset}
-use Rattle.check_terms.specs.declared.answers.RefuseCode.{RefuseCode}
+use Rattle.verdict_terms.specs.declared.check_answers.RefuseCode.{RefuseCode}
 use Rattle.packing_terms.specs.OuterPaths.{open_nodes, bins_with, choices_with}
 use Rattle.outer_check.specs.Outers.{PlainOuter, ForBins, ForValue, is_whole_tree}
 use Rattle.refutation_check.specs.Refuters.{PlainRefuter}

@@ -1,7 +1,7 @@
 -- The one token of a document that claims `none`.
 use Rattle.std.specs.Prelude.{ℕ, ◌≡◌, Bool, true, false, List, Some, Result, Ok, Err}
 use Rattle.packing_terms.specs.Packing.{PlainInstance, dims}
-use Rattle.document_terms.specs.declared.claim.Claim.{Claim}
+use Rattle.text_terms.specs.declared.claim.Claim.{Claim}
 use Rattle.verdict_terms.specs.declared.reason.Reason.{Reason}
 use Rattle.verdict_terms.specs.Stages.{Stage, exceeding_line}
 use Rattle.verdict_terms.specs.Stages.Stage.{Exceeding, Ending}

@@ -1,11 +1,11 @@
 -- The tree with families of a document.
 use Rattle.std.specs.Prelude.{ℕ, ◌≡◌, ◌≤◌, Bool, true, false, List, [], ◌∷◌, Result, Ok, Err}
 use Rattle.packing_terms.specs.Packing.{PlainInstance, dims}
-use Rattle.check_terms.specs.declared.answers.FeedVerdict.{FeedVerdict}
-use Rattle.check_terms.specs.declared.answers.FeedVerdict.TheVariants.{More, Done, Refused}
-use Rattle.document_terms.specs.declared.claim.Claim.{Claim}
-use Rattle.family_terms.specs.FamilyRefutation.{FamilyToken, Free}
-use Rattle.family_terms.specs.FamilyChecking.{families_after}
+use Rattle.verdict_terms.specs.declared.check_answers.FeedVerdict.{FeedVerdict}
+use Rattle.verdict_terms.specs.declared.check_answers.FeedVerdict.TheVariants.{More, Done, Refused}
+use Rattle.text_terms.specs.declared.claim.Claim.{Claim}
+use Rattle.verdict_terms.specs.FamilyRefutation.{FamilyToken, Free}
+use Rattle.verdict_terms.specs.FamilyChecking.{families_after}
 use Rattle.family_check.specs.FamilyRefuters.{PlainFamilyRefuter}
 use Rattle.verdict_terms.specs.Stages.{Stage, gathering_line}
 use Rattle.verdict_terms.specs.Stages.Stage.{ProvingFamilies, Gathering, Ended}

@@ -3,11 +3,11 @@ use Rattle.std.specs.Prelude.{◌≡◌, Bool, true, false, Option, Some, None, 
 use Rattle.text_terms.specs.Lines.{Line}
 use Rattle.text_terms.specs.Texts.{Parts, no_parts, add_line}
 use Rattle.instance_text.specs.declared.reader.ReadTextError.{ReadTextError}
-use Rattle.document_terms.specs.declared.claim.SolvingJob.{SolvingJob}
+use Rattle.text_terms.specs.declared.claim.SolvingJob.{SolvingJob}
 use Rattle.verdict_terms.specs.declared.heading.Heading.{Heading}
 use Rattle.verdict_terms.specs.Stages.{Stage, claimed, text_fault}
 use Rattle.verdict_terms.specs.Stages.Stage.{Beginning, Reading}
-use Rattle.line_cursor.specs.Readers.{held_parts, IsHeldHead}
+use Rattle.instance_text.specs.Readers.{held_parts, IsHeldHead}
 use Rattle.document_lines.specs.Ranges.{IsRanged}
 use Rattle.document_lines.specs.declared.head.Claimed.{Claimed}
 use Rattle.document_lines.specs.declared.judge.LineStop.{LineStop}

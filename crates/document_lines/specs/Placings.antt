@@ -1,7 +1,7 @@
 -- The place lines of a document.
 use Rattle.std.specs.Prelude.{ℕ, ◌≡◌, Bool, true, false, List, ◌++◌, Result, Ok, Err}
 use Rattle.packing_terms.specs.Packing.{PlainInstance}
-use Rattle.document_terms.specs.declared.claim.Claim.{Claim}
+use Rattle.text_terms.specs.declared.claim.Claim.{Claim}
 use Rattle.verdict_terms.specs.declared.heading.Heading.{Heading}
 use Rattle.verdict_terms.specs.Numbers.{coordinates}
 use Rattle.verdict_terms.specs.Stages.{Stage, placed, refutation_goal}

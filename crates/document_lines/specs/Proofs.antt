@@ -1,9 +1,9 @@
 -- The tree of a document.
 use Rattle.std.specs.Prelude.{ℕ, ◌≡◌, ◌≤◌, Bool, true, false, List, [], ◌∷◌, Some, Result, Ok, Err}
 use Rattle.packing_terms.specs.Tokens.{PlainToken}
-use Rattle.document_terms.specs.declared.claim.Claim.{Claim}
-use Rattle.check_terms.specs.declared.answers.FeedVerdict.{FeedVerdict}
-use Rattle.check_terms.specs.declared.answers.FeedVerdict.TheVariants.{More, Done, Refused}
+use Rattle.text_terms.specs.declared.claim.Claim.{Claim}
+use Rattle.verdict_terms.specs.declared.check_answers.FeedVerdict.{FeedVerdict}
+use Rattle.verdict_terms.specs.declared.check_answers.FeedVerdict.TheVariants.{More, Done, Refused}
 use Rattle.verdict_terms.specs.Stages.{Stage, tree_line, grown_tree}
 use Rattle.verdict_terms.specs.Stages.Stage.{Proving, Refuting, Ending}
 use Rattle.verdict_terms.specs.Trees.{Refuted, ToFit, ToFitIn, ToReach, Tree, InnerTree, BinTree, ValueTree, begun}

@@ -7,7 +7,7 @@ use Rattle.pack_streams.specs.Faults.{FaultCount, Stays, FailedOnce}
 use Rattle.pack_streams.specs.Moves.{Consumed}
 use Rattle.text_terms.specs.Lines.{is_line_feed}
 use Rattle.text_terms.specs.Feeding.{Lexer, ended_line, feed}
-use Rattle.document_terms.specs.declared.claim.Claim.{Claim}
+use Rattle.text_terms.specs.declared.claim.Claim.{Claim}
 use Rattle.verdict_terms.specs.declared.heading.Heading.{Heading}
 use Rattle.verdict_terms.specs.declared.heading.Heading.TheVariants.{Answer}
 use Rattle.verdict_terms.specs.Stages.{Stage, stage_after}

@@ -5,9 +5,9 @@ use Rattle.std.specs.List.{range_with_len, All}
 use Rattle.packing_terms.specs.Packing.{PlainInstance, dims, box_count}
 use Rattle.packing_terms.specs.Goals.{subset, in_bin, places_of}
 use Rattle.packing_terms.specs.Scales.{SidesFit}
-use Rattle.check_terms.specs.declared.answers.PlaceVerdict.{PlaceVerdict}
-use Rattle.check_terms.specs.Placing.{place_verdict}
-use Rattle.document_terms.specs.declared.claim.Claim.{Claim}
+use Rattle.verdict_terms.specs.declared.check_answers.PlaceVerdict.{PlaceVerdict}
+use Rattle.verdict_terms.specs.Placing.{place_verdict}
+use Rattle.text_terms.specs.declared.claim.Claim.{Claim}
 use Rattle.verdict_terms.specs.declared.heading.Heading.TheVariants.{Answer}
 use Rattle.verdict_terms.specs.declared.reason.Reason.{Reason}
 use Rattle.verdict_terms.specs.declared.reason.Reason.TheVariants.{OutsideAt}

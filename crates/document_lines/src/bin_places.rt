@@ -13,11 +13,10 @@ use crate::numbers::read_numbers;
 use crate::places::push_coordinates;
 use crate::words::{FORM, RANGE};
 use box_instances::Instance;
-use document_terms::Claim;
-use instance_text::LineLexer;
-use line_cursor::is_blank;
+use instance_text::{LineLexer, is_blank};
 use std::alloc::Global;
 use std::marker::Model;
+use text_terms::Claim;
 
 // Whether the number names a bin.
 fn names_bin(bin_count: u32, number: u128) -> bool

@@ -1,11 +1,11 @@
 //! The bounded refutation of a document, and the line `end` after it.
 ghost use Rattle.std.specs.Prelude.{◌≡◌, ◌≤◌, ℕ, not, true, false, None, Some, IsTrue, [], Err};
-ghost use Rattle.document_terms.specs.declared.claim.Claim.{Claim as PlainClaim};
+ghost use Rattle.text_terms.specs.declared.claim.Claim.{Claim as PlainClaim};
 ghost use Rattle.packing_terms.specs.Packing.{dims};
 ghost use Rattle.bounded_tokens.specs.Plain.{plain_bounded};
 ghost use Rattle.verdict_terms.specs.Stages.{bounding_token};
 ghost use Rattle.verdict_terms.specs.Stages.Stage.{Bounding};
-ghost use Rattle.bounded_terms.specs.BoundedLines.{bounded_token_of};
+ghost use Rattle.verdict_terms.specs.BoundedLines.{bounded_token_of};
 ghost use Rattle.document_lines.specs.Reading.{Judges, IsAt, ended_claim};
 ghost use Rattle.document_lines.specs.Checkers.{is_outer_open};
 ghost use Rattle.document_lines.specs.Boundings.{IsForValue, IsSame, FeedsNodes, TakesBounded, at_nodes, behind_nodes};
@@ -14,14 +14,12 @@ use crate::judge::{LineJudge, LineStop};
 use crate::words::{AFTER, FORM};
 use bounded_tokens::{BoundedToken, read_bounded_token};
 use box_instances::Instance;
-use check_terms::FeedVerdict;
-use document_terms::Claim;
-use instance_text::LineLexer;
-use line_cursor::{is_blank, is_word};
+use instance_text::{LineLexer, is_blank, is_word};
 use outer_check::OuterRefuter;
 use std::alloc::Global;
 use std::marker::Model;
-use verdict_terms::Reason;
+use text_terms::Claim;
+use verdict_terms::{FeedVerdict, Reason};
 
 // Gives a token to a refuter for a value.
 fn feed(refuter: &mut OuterRefuter<'_>, token: &BoundedToken) -> FeedVerdict

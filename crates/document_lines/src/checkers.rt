@@ -5,10 +5,10 @@ ghost use Rattle.document_lines.specs.Proofs.{IsFed};
 ghost use Rattle.document_lines.specs.Checkers.{shown_inner_tree, is_inner_open, shown_outer_tree, is_outer_open};
 
 use crate::tree::TreeChecker;
-use check_terms::FeedVerdict;
 use outer_check::OuterRefuter;
 use proof_tree::Token;
 use refutation_check::Refuter;
+use verdict_terms::FeedVerdict;
 
 impl<'a> TreeChecker for Refuter<'a> {
     ghost tree = { shown_inner_tree };

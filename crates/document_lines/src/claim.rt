@@ -3,10 +3,10 @@ ghost use Rattle.std.specs.Prelude.{◌≡◌, ◌≤◌, ◌<◌, ℕ, ◌^◌,
 ghost use Rattle.std.specs.declared.result.Result.{Result};
 ghost use Rattle.packing_terms.specs.Packing.{PlainInstance};
 ghost use Rattle.packing_terms.specs.Limits.{max_height};
-ghost use Rattle.document_terms.specs.Claims.{max_worth};
-ghost use Rattle.document_terms.specs.declared.claim.Claim.{Claim as PlainClaim};
-ghost use Rattle.document_terms.specs.declared.claim.Claim.TheVariants.{LeastHeight, HeightBetween, LeastBins, BinsBetween, GreatestValue, ValueBetween};
-ghost use Rattle.document_terms.specs.declared.claim.SolvingJob.TheVariants.{Fit, Strip, Bins, Knapsack};
+ghost use Rattle.text_terms.specs.Claims.{max_worth};
+ghost use Rattle.text_terms.specs.declared.claim.Claim.{Claim as PlainClaim};
+ghost use Rattle.text_terms.specs.declared.claim.Claim.TheVariants.{LeastHeight, HeightBetween, LeastBins, BinsBetween, GreatestValue, ValueBetween};
+ghost use Rattle.text_terms.specs.declared.claim.SolvingJob.TheVariants.{Fit, Strip, Bins, Knapsack};
 ghost use Rattle.verdict_terms.specs.Results.{none_claim, one_claim, two_claim, claim_of};
 ghost use Rattle.verdict_terms.specs.Trees.{map_ok};
 ghost use Rattle.document_lines.specs.Words.{claimed_fit};
@@ -14,9 +14,8 @@ ghost use Rattle.verdict_terms.specs.Stages.{rest_of};
 
 use crate::words::{FORM, RANGE, number_at};
 use box_instances::Instance;
-use document_terms::{Claim, SolvingJob};
-use instance_text::LineLexer;
-use line_cursor::is_same;
+use instance_text::{LineLexer, is_same};
+use text_terms::{Claim, SolvingJob};
 use verdict_terms::Reason;
 
 // The most that a height is, and the most that a value is.

@@ -8,12 +8,11 @@ ghost use Rattle.document_lines.specs.Endings.{end_stage, AreDims};
 
 use crate::judge::{LineJudge, LineStop};
 use crate::words::{AFTER, FORM};
-use document_terms::Claim;
-use instance_text::LineLexer;
-use line_cursor::{is_blank, is_word};
+use instance_text::{LineLexer, is_blank, is_word};
 use proof_tree::read_token;
 use std::alloc::Global;
 use std::marker::Model;
+use text_terms::Claim;
 use verdict_terms::Reason;
 
 /// Takes `end`, after places, or after the tree of an instance of `tree_dims` dimensions.

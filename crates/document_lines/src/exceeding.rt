@@ -1,7 +1,7 @@
 //! The one token of a document that claims `none`.
 ghost use Rattle.std.specs.Prelude.{◌≡◌, ◌≤◌, not, true, false, Some, IsTrue};
 ghost use Rattle.packing_terms.specs.Packing.{dims};
-ghost use Rattle.document_terms.specs.declared.claim.Claim.{Claim as PlainClaim};
+ghost use Rattle.text_terms.specs.declared.claim.Claim.{Claim as PlainClaim};
 ghost use Rattle.packing_terms.specs.Tokens.PlainToken.{TooLarge};
 ghost use Rattle.proof_tree.specs.Plain.{plain_token};
 ghost use Rattle.verdict_terms.specs.Stages.{exceeding_token};
@@ -13,14 +13,12 @@ ghost use Rattle.document_lines.specs.Exceedings.{TakesExceeding};
 use crate::judge::{LineJudge, LineStop};
 use crate::words::{FORM, RANGE};
 use box_instances::Instance;
-use check_terms::RefuseCode;
-use document_terms::Claim;
-use instance_text::LineLexer;
-use line_cursor::{is_blank, is_word};
+use instance_text::{LineLexer, is_blank, is_word};
 use proof_tree::{Token, read_token};
 use std::alloc::Global;
 use std::marker::Model;
-use verdict_terms::Reason;
+use text_terms::Claim;
+use verdict_terms::{Reason, RefuseCode};
 
 // Whether the box exceeds the container in the dimension, one of the first `dim_count`.
 fn test_side(instance: &Instance, dim_count: u32, box_no: u32, dim: u32) -> Result<(), Reason>

@@ -1,10 +1,10 @@
 //! The refutation with families of a document, and the line `end` after it.
 ghost use Rattle.std.specs.Prelude.{◌≡◌, ◌≤◌, not, true, false, None, Some, IsTrue, [], ◌∷◌, Err};
-ghost use Rattle.document_terms.specs.declared.claim.Claim.{Claim as PlainClaim};
+ghost use Rattle.text_terms.specs.declared.claim.Claim.{Claim as PlainClaim};
 ghost use Rattle.packing_terms.specs.Packing.{dims};
-ghost use Rattle.check_terms.specs.Checking.{starting};
-ghost use Rattle.family_terms.specs.FamilyRefutation.{Free};
-ghost use Rattle.family_terms.specs.FamilyLines.{family_token_of};
+ghost use Rattle.verdict_terms.specs.Checking.{starting};
+ghost use Rattle.verdict_terms.specs.FamilyRefutation.{Free};
+ghost use Rattle.verdict_terms.specs.FamilyLines.{family_token_of};
 ghost use Rattle.family_tokens.specs.Plain.{plain_family};
 ghost use Rattle.verdict_terms.specs.Stages.{gathering_token};
 ghost use Rattle.verdict_terms.specs.Stages.Stage.{Gathering};
@@ -15,15 +15,13 @@ use crate::judge::{LineJudge, LineStop};
 use crate::tree::TreeStep;
 use crate::words::{AFTER, FORM};
 use box_instances::Instance;
-use check_terms::FeedVerdict;
-use document_terms::Claim;
 use family_check::FamilyRefuter;
 use family_tokens::{FamilyToken, read_family_token};
-use instance_text::LineLexer;
-use line_cursor::{is_blank, is_word};
+use instance_text::{LineLexer, is_blank, is_word};
 use std::alloc::Global;
 use std::marker::Model;
-use verdict_terms::Reason;
+use text_terms::Claim;
+use verdict_terms::{FeedVerdict, Reason};
 
 // Gives a token to a refuter.
 fn feed(refuter: &mut FamilyRefuter<'_>, token: &FamilyToken) -> FeedVerdict

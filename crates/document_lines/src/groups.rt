@@ -1,7 +1,7 @@
 //! The places of sets of boxes.
 ghost use Rattle.std.specs.Prelude.{◌≡◌, ◌*◌, ◌≤◌, ◌<◌, ◌++◌, All, length, [], ◌∷◌};
 ghost use Rattle.packing_terms.specs.Packing.{dims, box_count};
-ghost use Rattle.check_terms.specs.Placing.{place_verdict};
+ghost use Rattle.verdict_terms.specs.Placing.{place_verdict};
 ghost use Rattle.verdict_terms.specs.Stages.{named_in, groups_reason};
 
 use box_instances::Instance;

@@ -8,19 +8,18 @@ ghost use Rattle.verdict_terms.specs.Stages.Stage.{Beginning, Reading};
 ghost use Rattle.verdict_terms.specs.Trees.{map_ok};
 ghost use Rattle.document_lines.specs.Reading.{Judges, IsAt, ended_claim};
 ghost use Rattle.document_lines.specs.Ranges.{IsRanged};
-ghost use Rattle.line_cursor.specs.Readers.{held_parts, IsHeldHead};
+ghost use Rattle.instance_text.specs.Readers.{held_parts, IsHeldHead};
 ghost use Rattle.document_lines.specs.Heads.{IsClaimedAs, IsRangedClaim, TakesText};
 
 use crate::claim::read_claim;
 use crate::judge::{LineJudge, LineStop};
 use crate::words::{FORM, is_result};
 use box_instances::Instance;
-use document_terms::{Claim, SolvingJob};
-use instance_text::{InstanceReader, LineLexer, ReadTextError};
-use line_cursor::{is_blank, is_same};
+use instance_text::{InstanceReader, LineLexer, ReadTextError, is_blank, is_same};
 use std::alloc::Global;
 use std::marker::Model;
 use std::mem;
+use text_terms::{Claim, SolvingJob};
 use verdict_terms::{Heading, Reason};
 
 /// An instance, and what a document claims of it under its heading.

@@ -6,9 +6,9 @@ ghost use Rattle.verdict_terms.specs.Stages.Stage.{Beginning};
 ghost use Rattle.document_lines.specs.declared.judge.ReadEnd.TheVariants.{Paused};
 ghost use Rattle.document_lines.specs.Reading.{Judges, IsAt, ended_claim, TakesByte, TakesEnd, IsReadBehind};
 
-use document_terms::Claim;
 use instance_text::{LexStep, LineLexer};
 use pack_streams::{ReadAnswer, Source};
+use text_terms::Claim;
 use verdict_terms::Reason;
 
 /// Why a line wasn't taken.

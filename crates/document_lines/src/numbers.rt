@@ -5,8 +5,7 @@ ghost use Rattle.document_lines.specs.Words.{items_of};
 
 use crate::words::{FORM, number_at};
 use arrayvec::ArrayVec;
-use instance_text::LineLexer;
-use line_cursor::is_same;
+use instance_text::{LineLexer, is_same};
 use verdict_terms::Reason;
 
 /// The `count` numbers after a first word, at most five.

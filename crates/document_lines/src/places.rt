@@ -12,12 +12,11 @@ use crate::judge::{LineJudge, LineStop};
 use crate::numbers::read_numbers;
 use crate::words::{FORM, RANGE};
 use box_instances::Instance;
-use document_terms::Claim;
-use instance_text::LineLexer;
-use line_cursor::is_blank;
+use instance_text::{LineLexer, is_blank};
 use placement_check::{PlaceVerdict, check_places};
 use std::alloc::Global;
 use std::marker::Model;
+use text_terms::Claim;
 use verdict_terms::{Heading, Reason};
 
 // The most that a coordinate is.

@@ -1,7 +1,7 @@
 //! The taken boxes of a document.
 ghost use Rattle.std.specs.Prelude.{◌≡◌, ◌+◌, ◌≤◌, length, nat_lt, not, true, [], Some, IsTrue};
 ghost use Rattle.std.specs.List.{list_all};
-ghost use Rattle.check_terms.specs.Judging.{names_box};
+ghost use Rattle.verdict_terms.specs.Judging.{names_box};
 ghost use Rattle.packing_terms.specs.Packing.{dims, box_count};
 ghost use Rattle.packing_terms.specs.Goals.{worth, IsBoxSet};
 ghost use Rattle.verdict_terms.specs.Stages.{taken_reason, value_stage};
@@ -15,11 +15,10 @@ use crate::numbers::read_numbers;
 use crate::places::push_coordinates;
 use crate::words::{FORM, RANGE};
 use box_instances::Instance;
-use document_terms::Claim;
-use instance_text::LineLexer;
-use line_cursor::{is_blank, is_word};
+use instance_text::{LineLexer, is_blank, is_word};
 use std::alloc::Global;
 use std::marker::Model;
+use text_terms::Claim;
 use verdict_terms::{Heading, Reason};
 
 // Whether the number names a box.

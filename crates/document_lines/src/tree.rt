@@ -8,14 +8,12 @@ ghost use Rattle.document_lines.specs.Proofs.{refuted_by, IsFed, TakesToken};
 
 use crate::judge::{LineJudge, LineStop};
 use crate::words::FORM;
-use check_terms::FeedVerdict;
-use document_terms::Claim;
-use instance_text::LineLexer;
-use line_cursor::{is_blank, is_word};
+use instance_text::{LineLexer, is_blank, is_word};
 use proof_tree::{Token, read_token};
 use std::alloc::Global;
 use std::marker::Model;
-use verdict_terms::Reason;
+use text_terms::Claim;
+use verdict_terms::{FeedVerdict, Reason};
 
 /// What checks a tree token by token.
 pub trait TreeChecker {

@@ -25,7 +25,7 @@ use Rattle.text_terms.specs.Texts.{is_none, no_parts}
 use Rattle.text_terms.specs.Feeding.{Lexer, no_line, new_lexer, held_of, add_byte, end_word, end_line, feed}
 use Rattle.text_terms.specs.Feeding.{ended_line, NumberedLine, lines_fed, told_now}
 use Rattle.text_terms.proofs.Fed.{lines_are_told}
-use Rattle.document_terms.specs.declared.claim.SolvingJob.TheVariants.{Strip, Knapsack}
+use Rattle.text_terms.specs.declared.claim.SolvingJob.TheVariants.{Strip, Knapsack}
 use Rattle.verdict_terms.specs.declared.heading.Heading.TheVariants.{Bounded as UnderBounded}
 use Rattle.verdict_terms.specs.declared.reason.Reason.{Reason}
 use Rattle.verdict_terms.specs.Reasons.{form}
@@ -34,10 +34,10 @@ use Rattle.verdict_terms.specs.Stages.Stage.{Beginning, Reading}
 use Rattle.verdict_terms.specs.Documents.{document_at_line}
 use Rattle.verdict_terms.specs.Fed.{fed_verdict}
 use Rattle.packing_terms.specs.Results.{◌>>=◌}
-use Rattle.explained_documents.specs.declared.kind.DocumentKind.{DocumentKind}
-use Rattle.explained_documents.specs.declared.kind.DocumentKind.TheVariants.{Explained, Front, Bounded, Reduced}
-use Rattle.explained_documents.specs.Kinds.{bounded_job, kind_of_words, kind_of_line, document_kind, kind_told}
-use Rattle.explained_documents.proofs.Told.{kinds_are_told}
+use Rattle.verdict_terms.specs.declared.kind.DocumentKind.{DocumentKind}
+use Rattle.verdict_terms.specs.declared.kind.DocumentKind.TheVariants.{Explained, Front, Bounded, Reduced}
+use Rattle.verdict_terms.specs.Kinds.{bounded_job, kind_of_words, kind_of_line, document_kind, kind_told}
+use Rattle.verdict_terms.proofs.Told.{kinds_are_told}
 use Rattle.document_lines.specs.Reading.{IsSoFar, IsTaking}
 use Rattle.document_lines.proofs.Steps.{gives_none, so_far_start, so_far_more, single, one_byte, number_rises}
 use Rattle.document_openings.specs.Openings.{all_but_last, is_one_filled, tells_kind, IsReadWhole}

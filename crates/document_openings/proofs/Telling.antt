@@ -10,9 +10,9 @@ use Rattle.std.proofs.lemmas.List.Splits.{length-slice_split}
 use Rattle.text_terms.specs.Lines.{is_line_feed, line_of, drop_empty_end}
 use Rattle.verdict_terms.specs.Stages.{is_blank}
 use Rattle.verdict_terms.proofs.Stays.{end_append}
-use Rattle.explained_documents.specs.declared.kind.DocumentKind.{DocumentKind}
-use Rattle.explained_documents.specs.declared.kind.DocumentKind.TheVariants.{Explained, Front, Bounded, Reduced}
-use Rattle.explained_documents.specs.Kinds.{kind_of_line, kind_of_lines, document_kind}
+use Rattle.verdict_terms.specs.declared.kind.DocumentKind.{DocumentKind}
+use Rattle.verdict_terms.specs.declared.kind.DocumentKind.TheVariants.{Explained, Front, Bounded, Reduced}
+use Rattle.verdict_terms.specs.Kinds.{kind_of_line, kind_of_lines, document_kind}
 use Rattle.document_openings.specs.Openings.{all_but_last, ended_lines, is_one_filled, tells_kind, KindsStay, TellingStays}
 use Rattle.document_openings.specs.Openings.{IsReadByLines, IsReadWhole, DocumentsAreReadOneWay}
 use Rattle.document_openings.proofs.Parts.{last_part, but_last, joined, parts_on}

@@ -4,8 +4,8 @@ use Rattle.std.specs.Prelude.{ℕ, ◌≡◌, ◌≢◌, ◌⊎◌, Bool, true, 
 use Rattle.std.specs.List.{slice_split, list_any}
 use Rattle.text_terms.specs.Lines.{is_line_feed, line_of}
 use Rattle.verdict_terms.specs.Stages.{is_blank}
-use Rattle.explained_documents.specs.declared.kind.DocumentKind.TheVariants.{Bounded}
-use Rattle.explained_documents.specs.Kinds.{document_kind}
+use Rattle.verdict_terms.specs.declared.kind.DocumentKind.TheVariants.{Bounded}
+use Rattle.verdict_terms.specs.Kinds.{document_kind}
 
 abbrev pub all_but_last : List (List ℕ) → List (List ℕ)
 all_but_last [] = []

@@ -12,12 +12,12 @@ use Rattle.text_terms.specs.Texts.{no_parts}
 use Rattle.text_terms.specs.Feeding.{Lexer, ended_line}
 use Rattle.text_terms.specs.Lines.{is_line_feed}
 use Rattle.verdict_terms.specs.Stages.{is_blank}
-use Rattle.document_terms.specs.declared.claim.SolvingJob.{SolvingJob}
+use Rattle.text_terms.specs.declared.claim.SolvingJob.{SolvingJob}
 use Rattle.verdict_terms.specs.declared.heading.Heading.TheVariants.{Bounded as UnderBounded}
 use Rattle.verdict_terms.specs.Stages.Stage.{Reading}
-use Rattle.explained_documents.specs.declared.kind.DocumentKind.{DocumentKind}
-use Rattle.explained_documents.specs.declared.kind.DocumentKind.TheVariants.{Bounded}
-use Rattle.explained_documents.specs.Kinds.{bounded_job, document_kind}
+use Rattle.verdict_terms.specs.declared.kind.DocumentKind.{DocumentKind}
+use Rattle.verdict_terms.specs.declared.kind.DocumentKind.TheVariants.{Bounded}
+use Rattle.verdict_terms.specs.Kinds.{bounded_job, document_kind}
 use Rattle.document_lines.specs.Reading.{IsTaking}
 use Rattle.document_openings.specs.Openings.{tells_kind, IsReadWhole}
 use Rattle.document_openings.specs.declared.opening.Opened.{Opened}

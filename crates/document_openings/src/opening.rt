@@ -3,13 +3,12 @@ ghost use Rattle.std.specs.Prelude.{◌≡◌, ◌≢◌, ◌<◌, ◌≤◌, �
 ghost use Rattle.text_terms.specs.Feeding.{feed};
 ghost use Rattle.document_openings.specs.Reading.{CountsOpening, IsOpened, IsOpeningRead, ReadsOn, ends_filled};
 
-use document_terms::SolvingJob;
 use explained_check::{bounded_job, kind_of_line};
-use explained_documents::DocumentKind;
-use instance_text::{LexStep, LineLexer};
-use line_cursor::is_blank;
+use instance_text::{LexStep, LineLexer, is_blank};
 use pack_streams::{ReadAnswer, ReadStop, Source};
 use std::alloc::Global;
+use text_terms::SolvingJob;
+use verdict_terms::DocumentKind;
 
 /// What the opening of a document begins.
 #[derive(Drop)]

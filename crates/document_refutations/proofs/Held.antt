@@ -17,16 +17,16 @@ use Rattle.text_terms.proofs.FormRead.{filled_with, heads, clean_parts}
 use Rattle.text_terms.proofs.FormTold.{lines_have_form}
 use Rattle.text_terms.proofs.Good.{good_start, line_good, bind_ok}
 use Rattle.text_terms.proofs.LinesFed.{texts_are_lines}
-use Rattle.document_terms.specs.declared.claim.Claim.TheVariants.{NotFitting}
-use Rattle.document_terms.specs.Claims.{job_of, job_word}
-use Rattle.document_terms.specs.TokenLines.{line_token, token_of}
-use Rattle.document_terms.proofs.Cuts.{token_lines_are_told}
+use Rattle.text_terms.specs.declared.claim.Claim.TheVariants.{NotFitting}
+use Rattle.text_terms.specs.Claims.{job_of, job_word}
+use Rattle.text_terms.specs.TokenLines.{line_token, token_of}
+use Rattle.text_terms.proofs.Cuts.{token_lines_are_told}
 use Rattle.verdict_terms.specs.declared.heading.Heading.TheVariants.{Answer}
 use Rattle.verdict_terms.specs.Documents.{document_verdict}
 use Rattle.verdict_terms.specs.Form.{IsDocument, AreTokenLines}
 use Rattle.verdict_terms.proofs.FormGiven.{split_at, clean_split, documents_have_form}
 use Rattle.verdict_terms.proofs.FormTold.{any_end}
-use Rattle.explained_documents.proofs.InstanceLines.{no_result, at_line_ok, added_words}
+use Rattle.verdict_terms.proofs.InstanceLines.{no_result, at_line_ok, added_words}
 use Rattle.document_refutations.specs.Rereading.{says_result, Reread, described, describing_line, proving, headed}
 use Rattle.document_refutations.specs.Rereading.{with_token, reread_line, reread_lines}
 use Rattle.document_refutations.specs.Rereading.Reread.{Unheaded, Describing, Proving, Broken}

@@ -3,7 +3,7 @@ use Rattle.std.specs.Prelude.{ℕ, zero, suc, ◌≡◌, cond, Bool, List, [], �
 use Rattle.packing_terms.specs.Packing.{PlainInstance}
 use Rattle.packing_terms.specs.Tokens.{PlainToken}
 use Rattle.text_terms.specs.Lines.{content, words_of}
-use Rattle.document_terms.specs.declared.claim.Claim.TheVariants.{NotFitting}
+use Rattle.text_terms.specs.declared.claim.Claim.TheVariants.{NotFitting}
 use Rattle.verdict_terms.specs.Form.{IsDocument}
 use Rattle.document_refutations.specs.Rereading.{says_result}
 

@@ -6,7 +6,7 @@ use Rattle.packing_terms.specs.Tokens.{PlainToken}
 use Rattle.text_terms.specs.Lines.{Line, same_bytes}
 use Rattle.text_terms.specs.Texts.{Parts, no_parts, first_word, add_line, at_end}
 use Rattle.text_terms.specs.Feeding.{NumberedLine}
-use Rattle.document_terms.specs.TokenLines.{line_token}
+use Rattle.text_terms.specs.TokenLines.{line_token}
 use Rattle.instance_text.specs.declared.reader.ReadTextError.{ReadTextError}
 use Rattle.instance_text.specs.Reading.{finished_instance}
 use Rattle.proof_tree.specs.Plain.{plain_tokens}

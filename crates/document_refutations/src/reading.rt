@@ -6,8 +6,7 @@ ghost use Rattle.document_refutations.specs.Rereading.{says_result, plain_readin
 ghost use Rattle.document_refutations.specs.Rereading.Reread.{Unheaded, Proving};
 
 use box_instances::{Instance, NoMemory};
-use instance_text::{InstanceReader, LexStep, LineLexer, ReadTextError};
-use line_cursor::is_first;
+use instance_text::{InstanceReader, LexStep, LineLexer, ReadTextError, is_first};
 use proof_tree::{Token, read_token};
 use std::alloc::Global;
 

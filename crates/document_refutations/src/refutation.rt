@@ -1,6 +1,6 @@
 //! The refutation that a verified document of `fit` holds.
 ghost use Rattle.std.specs.Prelude.{◌≡◌, Ok, IfOk};
-ghost use Rattle.document_terms.specs.declared.claim.Claim.TheVariants.{NotFitting};
+ghost use Rattle.text_terms.specs.declared.claim.Claim.TheVariants.{NotFitting};
 ghost use Rattle.proof_tree.specs.Plain.{plain_tokens};
 ghost use Rattle.verdict_terms.specs.Documents.{document_verdict};
 ghost use Rattle.document_refutations.specs.Refutations.{IsRefutationIn};

@@ -8,7 +8,7 @@ use Rattle.packing_terms.specs.Packing.{PlainInstance, box_count, side}
 use Rattle.packing_terms.specs.declared.Rel.{Rel}
 use Rattle.packing_terms.specs.declared.Rel.TheVariants.{Overlap, Before, After}
 use Rattle.packing_terms.specs.Exclusions.{Exclusions, IsEdge, IsSurelyBefore}
-use Rattle.closure_terms.specs.States.{HasEmptyMask}
+use Rattle.edge_state.specs.States.{HasEmptyMask}
 use Rattle.orientation_rules.specs.Kept.{IsTakenOut, taken}
 use Rattle.early_chains.specs.Lines.{IsKnownChain}
 

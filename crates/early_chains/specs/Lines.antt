@@ -4,7 +4,7 @@ use Rattle.std.specs.List.{AllByRecursion}
 use Rattle.packing_terms.specs.Packing.{PlainInstance, side, container_side}
 use Rattle.packing_terms.specs.Exclusions.{Exclusions, IsEdge, IsSurelyBefore}
 use Rattle.packing_terms.specs.Rules.{AreBoxes, IsChain, weight}
-use Rattle.rule_terms.specs.Runs.{HasTail}
+use Rattle.packing_terms.specs.Runs.{HasTail}
 
 -- a chain of known boxes that starts in v has the weight k
 pub record IsKnownChain (instance : PlainInstance) (X : Exclusions) (i v k : ℕ) (known : ℕ → Bool) : Type 0 where

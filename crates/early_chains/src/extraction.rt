@@ -3,7 +3,7 @@
 ghost use Rattle.std.specs.Prelude.{◌≡◌, IfSome, length};
 ghost use Rattle.packing_terms.specs.Packing.{box_count};
 ghost use Rattle.packing_terms.specs.Exclusions.{excludes};
-ghost use Rattle.closure_terms.specs.States.{IsSized};
+ghost use Rattle.edge_state.specs.States.{IsSized};
 ghost use Rattle.early_chains.specs.Lines.{IsTooLong};
 ghost use Rattle.edge_state.specs.BitRows.{HoldsBoxes};
 

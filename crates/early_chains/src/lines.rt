@@ -2,10 +2,10 @@
 ghost use Rattle.std.specs.Prelude.{◌≡◌, ◌<◌, ◌≤◌, IfSome, length};
 ghost use Rattle.packing_terms.specs.Packing.{dims, box_count};
 ghost use Rattle.packing_terms.specs.Exclusions.{excludes};
-ghost use Rattle.rule_terms.specs.Applied.{Extends};
-ghost use Rattle.rule_terms.specs.Runs.{HasTail};
+ghost use Rattle.packing_terms.specs.Applied.{Extends};
+ghost use Rattle.packing_terms.specs.Runs.{HasTail};
 ghost use Rattle.edge_state.specs.BitRows.{HoldsBoxes};
-ghost use Rattle.closure_terms.specs.States.{IsSized, HasEmptyMask};
+ghost use Rattle.edge_state.specs.States.{IsSized, HasEmptyMask};
 ghost use Rattle.early_chains.specs.Lines.{IsTooLong};
 
 use box_instances::Instance;

@@ -6,9 +6,9 @@ use Rattle.packing_terms.specs.Packing.{PlainInstance}
 use Rattle.packing_terms.specs.Exclusions.{excludes, exclusion_at, IsEdge}
 use Rattle.packing_terms.specs.Rules.{Follows}
 use Rattle.packing_terms.proofs.Monotone.{follows_more}
-use Rattle.rule_terms.specs.Steps.{with_exclusion}
-use Rattle.rule_terms.specs.Applied.{Extends}
-use Rattle.rule_terms.proofs.Applied.{extends_refl, extends_trans, step_follows}
+use Rattle.packing_terms.specs.Steps.{with_exclusion}
+use Rattle.packing_terms.specs.Applied.{Extends}
+use Rattle.packing_terms.proofs.Applied.{extends_refl, extends_trans, step_follows}
 use Rattle.edge_state.specs.RowExclusions.{with_row}
 use Rattle.edge_state.proofs.RowExclusions.{row_each}
 

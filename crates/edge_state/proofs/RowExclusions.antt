@@ -10,8 +10,8 @@ use Rattle.packing_terms.specs.Relations.{mirror}
 use Rattle.packing_terms.specs.Exclusions.{Exclusions, excludes, exclusion_at, is_of}
 use Rattle.packing_terms.specs.Closure.{IsSubset}
 use Rattle.packing_terms.proofs.Sets.{mirror_twice, of_own, excludes_symmetric}
-use Rattle.rule_terms.specs.Steps.{with_exclusion}
-use Rattle.rule_terms.proofs.Applied.{with_cases, with_keeps, with_own}
+use Rattle.packing_terms.specs.Steps.{with_exclusion}
+use Rattle.packing_terms.proofs.Applied.{with_cases, with_keeps, with_own}
 use Rattle.edge_state.specs.Answers.{is_empty_mask}
 use Rattle.edge_state.specs.Edges.{is_other_box}
 use Rattle.edge_state.specs.RowExclusions.{with_row, IsTakenAtRow, taken_at, mirror_taken_at, HasEmptyAt}

@@ -4,7 +4,7 @@ use Rattle.packing_terms.specs.declared.Rel.{Rel}
 use Rattle.packing_terms.specs.declared.Exclusion.{Exclusion}
 use Rattle.packing_terms.specs.Relations.{mirror}
 use Rattle.packing_terms.specs.Exclusions.{Exclusions, exclusion_at}
-use Rattle.rule_terms.specs.Steps.{with_exclusion}
+use Rattle.packing_terms.specs.Steps.{with_exclusion}
 use Rattle.edge_state.specs.Answers.{is_empty_mask}
 
 -- the list with the relation of u and each box of the row below a bound, by rising box: one

@@ -3,7 +3,7 @@ ghost use Rattle.std.specs.Prelude.{◌≡◌, ◌&&◌, ◌||◌, not};
 ghost use Rattle.packing_terms.specs.declared.Rel.{Rel as PlainRel};
 ghost use Rattle.packing_terms.specs.declared.Rel.TheVariants.{Overlap, Before, After};
 ghost use Rattle.packing_terms.specs.Exclusions.{is_same_rel, excludes, IsEdgeAmong};
-ghost use Rattle.rule_terms.specs.Rounds.{is_joined, is_surely_before};
+ghost use Rattle.packing_terms.specs.Rounds.{is_joined, is_surely_before};
 ghost use Rattle.relation_table.specs.Masks.{mask_has};
 ghost use Rattle.edge_state.specs.BitRows.{HoldsBoxes};
 

@@ -4,17 +4,17 @@ use Rattle.packing_terms.specs.Packing.{PlainInstance}
 use Rattle.packing_terms.specs.Results.{◌>>=◌}
 use Rattle.text_terms.specs.Feeding.{NumberedLine, ended_line, new_lexer}
 use Rattle.verdict_terms.specs.Stages.{is_blank}
-use Rattle.explained_documents.specs.declared.reason.ExplainedReason.{ExplainedReason}
-use Rattle.explained_documents.specs.declared.kind.DocumentKind.{DocumentKind}
-use Rattle.explained_documents.specs.Kinds.{document_kind, kind_of_line, kind_told}
-use Rattle.explained_documents.specs.Stages.{ExplainedStage, Heading, Ending, Ended, filled_line}
-use Rattle.explained_documents.specs.Documents.{ExplainedRefusal, at_line, explained_verdict, told_verdict}
-use Rattle.explained_documents.proofs.Told.{documents_are_fed, kinds_are_told}
-use Rattle.explained_documents.proofs.Shown.{documents_are_true}
+use Rattle.verdict_terms.specs.declared.explained_reason.ExplainedReason.{ExplainedReason}
+use Rattle.verdict_terms.specs.declared.kind.DocumentKind.{DocumentKind}
+use Rattle.verdict_terms.specs.Kinds.{document_kind, kind_of_line, kind_told}
+use Rattle.verdict_terms.specs.ExplainedDocumentStages.{ExplainedStage, Heading, Ending, Ended, filled_line}
+use Rattle.verdict_terms.specs.ExplainedDocumentDocuments.{ExplainedRefusal, at_line, explained_verdict, told_verdict}
+use Rattle.verdict_terms.proofs.Told.{documents_are_fed, kinds_are_told}
+use Rattle.verdict_terms.proofs.Shown.{documents_are_true}
 use Rattle.explained_check.specs.declared.audit.ExplainedAudit.{ExplainedAudit}
 use Rattle.explained_check.specs.declared.audit.ExplainedAudit.TheVariants.{Verified, Refused, NoMemory}
-use Rattle.line_cursor.specs.declared.cursor.Cursor.{Cursor}
-use Rattle.line_cursor.specs.Lines.{lines_left, past_blank, IsNextFilled}
+use Rattle.instance_text.specs.declared.cursor.Cursor.{Cursor}
+use Rattle.instance_text.specs.Lines.{lines_left, past_blank, IsNextFilled}
 use Rattle.explained_check.specs.Audits.{IsVerdict, IsNextTaken, IsKindTold, IsTrueAudit, verdict_left}
 
 -- blank lines are skipped

@@ -3,15 +3,15 @@ use Rattle.std.specs.Prelude.{ℕ, ◌≡◌, Bool, true, false, List, Option, S
 use Rattle.packing_terms.specs.Packing.{PlainInstance}
 use Rattle.packing_terms.specs.Results.{◌>>=◌}
 use Rattle.text_terms.specs.Feeding.{ended_line}
-use Rattle.explained_documents.specs.declared.kind.DocumentKind.TheVariants.{Reduced}
-use Rattle.explained_documents.specs.Kinds.{kind_of_line, kind_told}
-use Rattle.explained_documents.specs.Stages.{ExplainedStage, filled_line}
-use Rattle.explained_documents.specs.Documents.{ExplainedRefusal, at_line, at_end, explained_verdict, told_verdict}
-use Rattle.explained_documents.specs.Documents.{IsShown}
+use Rattle.verdict_terms.specs.declared.kind.DocumentKind.TheVariants.{Reduced}
+use Rattle.verdict_terms.specs.Kinds.{kind_of_line, kind_told}
+use Rattle.verdict_terms.specs.ExplainedDocumentStages.{ExplainedStage, filled_line}
+use Rattle.verdict_terms.specs.ExplainedDocumentDocuments.{ExplainedRefusal, at_line, at_end, explained_verdict, told_verdict}
+use Rattle.verdict_terms.specs.ExplainedDocumentDocuments.{IsShown}
 use Rattle.explained_check.specs.declared.audit.ExplainedAudit.{ExplainedAudit}
 use Rattle.explained_check.specs.declared.audit.ExplainedAudit.TheVariants.{Verified, Refused, NoMemory}
-use Rattle.line_cursor.specs.declared.cursor.Cursor.{Cursor}
-use Rattle.line_cursor.specs.Lines.{lines_left}
+use Rattle.instance_text.specs.declared.cursor.Cursor.{Cursor}
+use Rattle.instance_text.specs.Lines.{lines_left}
 
 -- the verdict, unless memory was refused
 abbrev pub IsVerdict : Result PlainInstance ExplainedRefusal → ExplainedAudit → Type 0

@@ -3,8 +3,8 @@ use Rattle.std.specs.Prelude.{ℕ, ◌≡◌, ◌≤◌, Bool, true, false, None
 use Rattle.packing_terms.specs.Packing.{dims}
 use Rattle.text_terms.specs.Lines.{Line}
 use Rattle.line_proofs.specs.Auditors.{PlainAuditor}
-use Rattle.explained_documents.specs.declared.reason.ExplainedReason.{ExplainedReason}
-use Rattle.explained_documents.specs.Stages.{Explaining, Ending, filled_line}
+use Rattle.verdict_terms.specs.declared.explained_reason.ExplainedReason.{ExplainedReason}
+use Rattle.verdict_terms.specs.ExplainedDocumentStages.{Explaining, Ending, filled_line}
 
 -- no line was refused of a tree over `d` dimensions
 pub record IsGoing (r : PlainAuditor) (d : ℕ) : Type 0 where

@@ -1,17 +1,17 @@
 //! The audit of an explained document that stands in memory.
 ghost use Rattle.std.specs.Prelude.{◌≡◌, ◌+◌, ◌<◌, ◌^◌};
-ghost use Rattle.explained_documents.specs.declared.reason.ExplainedReason.TheVariants.{TooShort};
-ghost use Rattle.explained_documents.specs.Stages.{Heading};
-ghost use Rattle.explained_documents.specs.Documents.{explained_verdict};
+ghost use Rattle.verdict_terms.specs.declared.explained_reason.ExplainedReason.TheVariants.{TooShort};
+ghost use Rattle.verdict_terms.specs.ExplainedDocumentStages.{Heading};
+ghost use Rattle.verdict_terms.specs.ExplainedDocumentDocuments.{explained_verdict};
 ghost use Rattle.explained_check.specs.Audits.{IsVerdict, IsTrueAudit, verdict_left};
-ghost use Rattle.line_cursor.specs.Lines.{IsAmong};
+ghost use Rattle.instance_text.specs.Lines.{IsAmong};
 
 use crate::head::read_head;
 use crate::tree::{read_end, read_tree};
-use explained_documents::ExplainedReason;
-use line_cursor::Cursor;
+use instance_text::Cursor;
 use line_proofs::Auditor;
 use std::alloc::Global;
+use verdict_terms::ExplainedReason;
 
 /// What the audit of an explained document came to.
 #[derive(Clone, Copy, Debug, PartialEq, Eq)]

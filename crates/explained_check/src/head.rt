@@ -2,22 +2,20 @@
 ghost use Rattle.std.specs.Prelude.{◌≡◌, IfOk, IfErr, true};
 ghost use Rattle.text_terms.specs.Texts.{no_parts};
 ghost use Rattle.text_terms.specs.Feeding.{ended_line};
-ghost use Rattle.explained_documents.specs.Stages.{Heading, Reading, begun, filled_line, result_line};
-ghost use Rattle.line_cursor.specs.Lines.{IsAmong};
+ghost use Rattle.verdict_terms.specs.ExplainedDocumentStages.{Heading, Reading, begun, filled_line, result_line};
+ghost use Rattle.instance_text.specs.Lines.{IsAmong};
 ghost use Rattle.explained_check.specs.Audits.{IsVerdict, verdict_left};
 ghost use Rattle.verdict_terms.specs.Trees.{map_ok};
-ghost use Rattle.line_cursor.specs.Readers.{held_parts, IsHeldHead};
+ghost use Rattle.instance_text.specs.Readers.{held_parts, IsHeldHead};
 ghost use Rattle.explained_check.specs.Heads.{TakesText};
 
 use crate::audit::{ExplainedAudit, short};
 use crate::lines::next_taken;
 use crate::words::are_two;
 use box_instances::Instance;
-use explained_documents::ExplainedReason;
-use explained_terms::AuditCode;
-use instance_text::{InstanceReader, LineLexer, ReadTextError};
-use line_cursor::{Cursor, is_result};
+use instance_text::{Cursor, InstanceReader, LineLexer, ReadTextError, is_result};
 use std::alloc::Global;
+use verdict_terms::{AuditCode, ExplainedReason};
 
 /// The line has another form than the place wants.
 pub(crate) const FORM: ExplainedReason = ExplainedReason::Line {

@@ -1,15 +1,14 @@
 //! The kind of a document.
 ghost use Rattle.std.specs.Prelude.{◌≡◌};
 ghost use Rattle.text_terms.specs.Feeding.{ended_line};
-ghost use Rattle.explained_documents.specs.Kinds.{begin_bounded, bounded_job, document_kind, kind_of_line, kind_told};
-ghost use Rattle.line_cursor.specs.Lines.{IsAmong, lines_left};
+ghost use Rattle.verdict_terms.specs.Kinds.{begin_bounded, bounded_job, document_kind, kind_of_line, kind_told};
+ghost use Rattle.instance_text.specs.Lines.{IsAmong, lines_left};
 
 use crate::lines::next_taken;
 use crate::words::are_two;
-use document_terms::SolvingJob;
-use explained_documents::DocumentKind;
-use instance_text::LineLexer;
-use line_cursor::{Cursor, is_word};
+use instance_text::{Cursor, LineLexer, is_word};
+use text_terms::SolvingJob;
+use verdict_terms::DocumentKind;
 
 /// The kind of a document whose first line that isn't blank is this one.
 pub fn kind_of_line(line: &LineLexer) -> DocumentKind

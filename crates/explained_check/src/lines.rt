@@ -1,9 +1,9 @@
 //! The lines that are left, as the verdict takes them.
 ghost use Rattle.std.specs.Prelude.{◌≡◌, ◌<◌, length, true};
-ghost use Rattle.line_cursor.specs.Lines.{IsAmong, lines_left};
+ghost use Rattle.instance_text.specs.Lines.{IsAmong, lines_left};
 ghost use Rattle.explained_check.specs.Audits.{IsNextTaken, IsKindTold};
 
-use line_cursor::{Cursor, next_filled};
+use instance_text::{Cursor, next_filled};
 
 /// Takes the lines up to the next one that isn't blank. Answers whether there was one.
 pub(crate) fn next_taken(bytes: &[u8], at: &mut Cursor) -> bool

@@ -2,8 +2,8 @@
 ghost use Rattle.std.specs.Prelude.{◌≡◌, ◌≤◌, None};
 ghost use Rattle.packing_terms.specs.Packing.{PlainInstance, dims as dim_count};
 ghost use Rattle.text_terms.specs.Feeding.{ended_line};
-ghost use Rattle.explained_documents.specs.Stages.{Explaining, Ending, Ended, filled_line};
-ghost use Rattle.line_cursor.specs.Lines.{IsAmong};
+ghost use Rattle.verdict_terms.specs.ExplainedDocumentStages.{Explaining, Ending, Ended, filled_line};
+ghost use Rattle.instance_text.specs.Lines.{IsAmong};
 ghost use Rattle.explained_check.specs.Audits.{IsVerdict, IsStopped, verdict_left};
 ghost use Rattle.verdict_terms.specs.Trees.{map_ok};
 ghost use Rattle.explained_check.specs.Trees.{IsGoing, IsGrown};
@@ -11,12 +11,10 @@ ghost use Rattle.explained_check.specs.Trees.{IsGoing, IsGrown};
 use crate::audit::{ExplainedAudit, short};
 use crate::head::FORM;
 use crate::lines::next_taken;
-use explained_documents::ExplainedReason;
-use explained_terms::{AuditCode, AuditVerdict};
-use instance_text::LineLexer;
-use line_cursor::{Cursor, is_word};
+use instance_text::{Cursor, LineLexer, is_word};
 use line_proofs::{Auditor, read_step};
 use std::alloc::Global;
+use verdict_terms::{AuditCode, AuditVerdict, ExplainedReason};
 
 // The document was whole before the line.
 const AFTER: ExplainedReason = ExplainedReason::Line {

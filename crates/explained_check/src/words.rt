@@ -1,9 +1,8 @@
 //! The words of a line.
 ghost use Rattle.std.specs.Prelude.{◌≡◌};
-ghost use Rattle.explained_documents.specs.Stages.{are_two};
+ghost use Rattle.verdict_terms.specs.ExplainedDocumentStages.{are_two};
 
-use instance_text::LineLexer;
-use line_cursor::is_same;
+use instance_text::{LineLexer, is_same};
 
 /// Whether the line is these two words.
 pub(crate) fn are_two(line: &LineLexer, key: &[u8], other: &[u8]) -> bool

@@ -1,9 +1,8 @@
 //! Explained documents that stand in memory, and the audit of each.
 use explained_check::{ExplainedAudit, audit_explained, document_kind};
-use explained_documents::{DocumentKind, ExplainedReason};
-use explained_terms::AuditCode;
 use std::alloc::Global;
 use std::test::Fail;
+use verdict_terms::{AuditCode, DocumentKind, ExplainedReason};
 
 // Whether the audit refuses the document at this line for this reason.
 fn refuses(alloc: Global, document: &[u8], at: u64, why: ExplainedReason) -> bool {

@@ -2,11 +2,11 @@
 use crate::lines::read;
 use AuditVerdict::{Done, More};
 use box_instances::Instance;
-use explained_terms::{AuditCode, AuditVerdict};
 use instance_text::read_instance;
 use line_proofs::Auditor;
 use std::alloc::Global;
 use std::test::Fail;
+use verdict_terms::{AuditCode, AuditVerdict};
 
 // The last verdict on the lines of a tree of an instance.
 fn verdict(alloc: Global, instance: &Instance, lines: &[&[u8]]) -> Option<AuditVerdict> {

@@ -1,7 +1,6 @@
 //! Explained refutations that are written from refutations, each audited.
 use box_instances::Instance;
 use class_search::decide_alone;
-use explained_terms::AuditVerdict;
 use instance_text::read_instance;
 use line_proofs::{Auditor, Step, StepList, write_step};
 use pack_streams::MemorySink;
@@ -9,6 +8,7 @@ use proof_tree::{Outcome, Token, write_token};
 use refutation_steps::explain;
 use std::alloc::Global;
 use std::test::Fail;
+use verdict_terms::AuditVerdict;
 
 // The tokens that the search refutes the instance by, and their explanation.
 fn explained(

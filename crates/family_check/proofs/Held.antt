@@ -9,15 +9,15 @@ use Rattle.packing_terms.specs.Packing.{PlainInstance, box_count}
 use Rattle.packing_terms.specs.Goals.{subset}
 use Rattle.packing_terms.specs.Tokens.{PlainToken}
 use Rattle.box_instances.specs.Sets.{all_boxes}
-use Rattle.check_terms.specs.declared.answers.RefuseCode.{RefuseCode}
-use Rattle.check_terms.specs.Checking.{Checked}
-use Rattle.check_terms.proofs.Judged.{passes}
-use Rattle.family_terms.specs.Families.{IsBoxNo, IsFamily, is_too_long}
-use Rattle.family_terms.specs.FamilyRefutation.{Family, Free, Begun}
-use Rattle.family_terms.specs.FamilyJudging.{boxes_refusal}
-use Rattle.family_terms.proofs.FamilyJudged.{family_exact}
-use Rattle.family_terms.proofs.FamilySound.{grown}
-use Rattle.family_terms.proofs.Few.{family_few}
+use Rattle.verdict_terms.specs.declared.check_answers.RefuseCode.{RefuseCode}
+use Rattle.verdict_terms.specs.Checking.{Checked}
+use Rattle.verdict_terms.proofs.Judged.{passes}
+use Rattle.verdict_terms.specs.Families.{IsBoxNo, IsFamily, is_too_long}
+use Rattle.verdict_terms.specs.FamilyRefutation.{Family, Free, Begun}
+use Rattle.verdict_terms.specs.FamilyJudging.{boxes_refusal}
+use Rattle.verdict_terms.proofs.FamilyJudged.{family_exact}
+use Rattle.verdict_terms.proofs.FamilySound.{grown}
+use Rattle.verdict_terms.proofs.FamilyFew.{family_few}
 use Rattle.refutation_check.specs.Refuters.{PlainRefuter, fed}
 use Rattle.refutation_check.specs.Joining.{AreBoxNos, unless_refused, joined_at, checked_joined}
 use Rattle.refutation_check.proofs.Whole.{whole_set}

@@ -8,16 +8,16 @@ use Rattle.packing_terms.specs.Packing.{PlainInstance}
 use Rattle.packing_terms.specs.Goals.{subset}
 use Rattle.packing_terms.specs.Tokens.{PlainToken}
 use Rattle.box_instances.specs.Sets.{all_boxes}
-use Rattle.check_terms.specs.declared.answers.RefuseCode.{RefuseCode}
-use Rattle.check_terms.specs.declared.answers.RefuseCode.TheVariants.{Kind}
-use Rattle.check_terms.specs.Judging.{unless}
-use Rattle.check_terms.specs.Checking.{Checked, checked_by, checked_after, kept_or, inner_after, answered_by}
-use Rattle.check_terms.specs.Checking.{is_whole_by, left_by}
-use Rattle.family_terms.specs.Families.{is_too_long}
-use Rattle.family_terms.specs.FamilyRefutation.{FamilyNode, Plain, Family, Begun}
-use Rattle.family_terms.specs.FamilyJudging.{boxes_refusal}
-use Rattle.family_terms.specs.FamilyChecking.{all_free, freed, families_after}
-use Rattle.family_terms.proofs.FamilyJudged.{plain_families_after}
+use Rattle.verdict_terms.specs.declared.check_answers.RefuseCode.{RefuseCode}
+use Rattle.verdict_terms.specs.declared.check_answers.RefuseCode.TheVariants.{Kind}
+use Rattle.verdict_terms.specs.Judging.{unless}
+use Rattle.verdict_terms.specs.Checking.{Checked, checked_by, checked_after, kept_or, inner_after, answered_by}
+use Rattle.verdict_terms.specs.Checking.{is_whole_by, left_by}
+use Rattle.verdict_terms.specs.Families.{is_too_long}
+use Rattle.verdict_terms.specs.FamilyRefutation.{FamilyNode, Plain, Family, Begun}
+use Rattle.verdict_terms.specs.FamilyJudging.{boxes_refusal}
+use Rattle.verdict_terms.specs.FamilyChecking.{all_free, freed, families_after}
+use Rattle.verdict_terms.proofs.FamilyJudged.{plain_families_after}
 use Rattle.refutation_check.specs.Refuters.{PlainRefuter, fed}
 use Rattle.refutation_check.specs.Joining.{unless_refused, joined_at, still_refused, join_answer, checked_joined}
 use Rattle.refutation_check.proofs.Whole.{whole_set}

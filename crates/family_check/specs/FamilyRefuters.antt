@@ -3,12 +3,12 @@ use Rattle.std.specs.Prelude.{ℕ, ◌≡◌, ◌+◌, ◌≤◌, List, [], ◌�
 use Rattle.packing_terms.specs.declared.Exclusion.{Exclusion}
 use Rattle.packing_terms.specs.Packing.{PlainInstance, box_count}
 use Rattle.box_instances.specs.Sets.{all_boxes}
-use Rattle.check_terms.specs.declared.answers.RefuseCode.{RefuseCode}
-use Rattle.check_terms.specs.Checking.{Checked}
+use Rattle.verdict_terms.specs.declared.check_answers.RefuseCode.{RefuseCode}
+use Rattle.verdict_terms.specs.Checking.{Checked}
 use Rattle.refutation_check.specs.Refuters.{PlainRefuter}
-use Rattle.family_terms.specs.Families.{IsFamily}
-use Rattle.family_terms.specs.FamilyRefutation.{FamilyToken, FamilyNode, Free, Begun}
-use Rattle.family_terms.specs.FamilyChecking.{all_free, family_checked}
+use Rattle.verdict_terms.specs.Families.{IsFamily}
+use Rattle.verdict_terms.specs.FamilyRefutation.{FamilyToken, FamilyNode, Free, Begun}
+use Rattle.verdict_terms.specs.FamilyChecking.{all_free, family_checked}
 
 -- the instance, and what was checked of its tree
 pub record PlainFamilyRefuter : Type 0 where

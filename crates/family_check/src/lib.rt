@@ -3,5 +3,5 @@
 
 mod refuter;
 
-pub use check_terms::{FeedVerdict, RefuseCode};
 pub use refuter::FamilyRefuter;
+pub use verdict_terms::{FeedVerdict, RefuseCode};

@@ -1,20 +1,20 @@
 //! A tree with families that is checked token by token.
 ghost use Rattle.std.specs.Prelude.{◌≡◌, ◌≤◌, ◌+◌, ◌++◌, [], length, vec_capacity, IfOk};
 ghost use Rattle.packing_terms.specs.Exclusions.{AreAtEdges};
-ghost use Rattle.check_terms.specs.Checking.{starting, answered, is_whole};
+ghost use Rattle.verdict_terms.specs.Checking.{starting, answered, is_whole};
 ghost use Rattle.proof_tree.specs.Plain.{plain_token};
-ghost use Rattle.family_terms.specs.FamilyRefutation.{Plain, Family, Free};
+ghost use Rattle.verdict_terms.specs.FamilyRefutation.{Plain, Family, Free};
 ghost use Rattle.family_tokens.specs.Plain.{plain_family};
 ghost use Rattle.family_check.specs.FamilyRefuters.{fed_family};
 ghost use Rattle.family_check.specs.Answers.{refusal_in, is_begun_in};
 
 use box_instances::{Instance, NoMemory};
-use check_terms::{FeedVerdict, RefuseCode};
 use edge_state::Exclusion;
 use family_tokens::{FamilyToken, Token};
 use refutation_check::Refuter;
 use std::alloc::Global;
 use std::marker::Model;
+use verdict_terms::{FeedVerdict, RefuseCode};
 
 /// Checks a refutation with families of an instance, token by token. It takes all its memory when
 /// it is made.

@@ -3,9 +3,9 @@ use Rattle.std.proofs.Common.{◌≡◌, ℕ, ◌≤◌, sym, ap, ◌∙◌, ari
 use Rattle.std.proofs.Common.{None, codes}
 use Rattle.std.specs.Prelude.{option_map}
 use Rattle.text_terms.specs.Lines.{Line, same_bytes}
-use Rattle.document_terms.specs.TokenLines.{parameters, token_of, line_token}
-use Rattle.family_terms.specs.FamilyRefutation.{Plain}
-use Rattle.family_terms.specs.FamilyLines.{family_by, family_token_of, family_line_token}
+use Rattle.text_terms.specs.TokenLines.{parameters, token_of, line_token}
+use Rattle.verdict_terms.specs.FamilyRefutation.{Plain}
+use Rattle.verdict_terms.specs.FamilyLines.{family_by, family_token_of, family_line_token}
 
 -- a line without a bad byte is what its words are
 calm_line : (d : ℕ) (line : Line) → line.bad ≡ false → family_line_token d line ≡ family_token_of d line.words

@@ -3,11 +3,11 @@ use Rattle.std.proofs.Common.{◌≡◌, ℕ, zero, suc, ◌+◌, ◌<◌, ◌�
 use Rattle.std.proofs.Common.{◌∷◌, ◌++◌, length, drop, get_or, Option, Some, None, append_assoc, append-nil, length-append}
 use Rattle.std.proofs.lemmas.Bool.{le-leb}
 use Rattle.std.proofs.lemmas.List.{length-drop}
-use Rattle.document_terms.specs.TokenLines.{parameter, parameters, in_front}
-use Rattle.document_terms.proofs.Cuts.{parameters_many}
-use Rattle.family_terms.specs.FamilyRefutation.{Family}
-use Rattle.family_terms.specs.FamilyLines.{most_joining, family_by}
-use Rattle.family_terms.proofs.FamilyBack.{many_joining}
+use Rattle.text_terms.specs.TokenLines.{parameter, parameters, in_front}
+use Rattle.text_terms.proofs.Cuts.{parameters_many}
+use Rattle.verdict_terms.specs.FamilyRefutation.{Family}
+use Rattle.verdict_terms.specs.FamilyLines.{most_joining, family_by}
+use Rattle.verdict_terms.proofs.FamilyBack.{many_joining}
 
 -- the numbers before, and those of the words that are left
 abbrev pub behind : List ℕ → Option (List ℕ) → Option (List ℕ)

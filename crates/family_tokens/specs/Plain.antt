@@ -1,6 +1,6 @@
 -- Tokens as the plain data of the definitions.
 use Rattle.std.specs.Prelude.{List, map}
-use Rattle.family_terms.specs.FamilyRefutation.{FamilyToken as PlainToken, Plain as PlainPlain, Family as PlainFamily}
+use Rattle.verdict_terms.specs.FamilyRefutation.{FamilyToken as PlainToken, Plain as PlainPlain, Family as PlainFamily}
 use Rattle.proof_tree.specs.Plain.{plain_token}
 use Rattle.family_tokens.specs.declared.token.FamilyToken.{FamilyToken}
 use Rattle.family_tokens.specs.declared.token.FamilyToken.TheVariants.{Plain, Family}

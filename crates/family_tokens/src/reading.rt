@@ -1,9 +1,9 @@
 //! The token that a line is.
 ghost use Rattle.std.specs.Prelude.{◌≡◌, ◌≤◌, length, drop, option_map};
 ghost use Rattle.text_terms.specs.Feeding.{ended_line};
-ghost use Rattle.document_terms.specs.TokenLines.{parameters, line_token};
-ghost use Rattle.family_terms.specs.FamilyRefutation.{Plain};
-ghost use Rattle.family_terms.specs.FamilyLines.{family_by, family_line_token};
+ghost use Rattle.text_terms.specs.TokenLines.{parameters, line_token};
+ghost use Rattle.verdict_terms.specs.FamilyRefutation.{Plain};
+ghost use Rattle.verdict_terms.specs.FamilyLines.{family_by, family_line_token};
 ghost use Rattle.family_tokens.specs.Plain.{plain_family};
 
 use crate::{FamilyToken, JoiningBoxes};

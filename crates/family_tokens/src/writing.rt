@@ -3,7 +3,7 @@ ghost use Rattle.std.specs.Prelude.{◌∷◌, ◌++◌, [], map, codes};
 ghost use Rattle.std.specs.Fmt.{decimal};
 ghost use Rattle.pack_streams.specs.Writing.{Continues, Writes};
 ghost use Rattle.instance_text.specs.Writing.{after_spaces};
-ghost use Rattle.family_terms.specs.FamilyLines.{family_token_line};
+ghost use Rattle.verdict_terms.specs.FamilyLines.{family_token_line};
 ghost use Rattle.family_tokens.specs.Plain.{plain_family};
 
 use crate::FamilyToken;

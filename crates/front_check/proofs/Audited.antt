@@ -10,23 +10,23 @@ use Rattle.packing_terms.specs.Goals.{subset}
 use Rattle.packing_terms.specs.Results.{◌>>=◌}
 use Rattle.packing_terms.specs.Tokens.{PlainToken}
 use Rattle.box_instances.specs.Sets.{all_boxes}
-use Rattle.check_terms.specs.declared.answers.PlaceVerdict.{PlaceVerdict}
-use Rattle.check_terms.specs.declared.answers.PlaceVerdict.TheVariants.{Good as GoodPlaces, Outside, Overlap}
-use Rattle.check_terms.specs.Placing.{place_verdict}
-use Rattle.check_terms.specs.declared.answers.RefuseCode.{RefuseCode}
-use Rattle.check_terms.specs.declared.answers.FeedVerdict.{FeedVerdict}
-use Rattle.check_terms.specs.declared.answers.FeedVerdict.TheVariants.{More, Done, Refused}
-use Rattle.check_terms.specs.Checking.{Checked, starting, inner_after, checked_by, kept_or, answered}
+use Rattle.verdict_terms.specs.declared.check_answers.PlaceVerdict.{PlaceVerdict}
+use Rattle.verdict_terms.specs.declared.check_answers.PlaceVerdict.TheVariants.{Good as GoodPlaces, Outside, Overlap}
+use Rattle.verdict_terms.specs.Placing.{place_verdict}
+use Rattle.verdict_terms.specs.declared.check_answers.RefuseCode.{RefuseCode}
+use Rattle.verdict_terms.specs.declared.check_answers.FeedVerdict.{FeedVerdict}
+use Rattle.verdict_terms.specs.declared.check_answers.FeedVerdict.TheVariants.{More, Done, Refused}
+use Rattle.verdict_terms.specs.Checking.{Checked, starting, inner_after, checked_by, kept_or, answered}
 use Rattle.refutation_check.specs.Refuters.{PlainRefuter, fed}
 use Rattle.refutation_check.proofs.Whole.{whole_set, IsFedAs, fed_as}
-use Rattle.front_terms.specs.declared.answers.FrontReason.{FrontReason}
-use Rattle.front_terms.specs.declared.answers.FrontReason.TheVariants.{Tree, Places}
-use Rattle.front_terms.specs.declared.answers.FrontVerdict.TheVariants.{Good, Short, Refused as RefusedFront}
-use Rattle.front_terms.specs.Fronts.{with_container}
-use Rattle.front_terms.specs.Lines.{PlainLine, PlaceAt, TreeToken, FrontStage, form, tested, placed, place_line}
-use Rattle.front_terms.specs.Lines.{token_line, grown, at_line, front_line, front_lines_after, is_whole_front}
-use Rattle.front_terms.specs.Lines.{announced}
-use Rattle.front_terms.specs.Verdicts.{verdict_by, front_verdict}
+use Rattle.verdict_terms.specs.declared.front_answers.FrontReason.{FrontReason}
+use Rattle.verdict_terms.specs.declared.front_answers.FrontReason.TheVariants.{Tree, Places}
+use Rattle.verdict_terms.specs.declared.front_answers.FrontVerdict.TheVariants.{Good, Short, Refused as RefusedFront}
+use Rattle.verdict_terms.specs.Fronts.{with_container}
+use Rattle.verdict_terms.specs.Lines.{PlainLine, PlaceAt, TreeToken, FrontStage, form, tested, placed, place_line}
+use Rattle.verdict_terms.specs.Lines.{token_line, grown, at_line, front_line, front_lines_after, is_whole_front}
+use Rattle.verdict_terms.specs.Lines.{announced}
+use Rattle.verdict_terms.specs.Verdicts.{verdict_by, front_verdict}
 use Rattle.smallvec.specs.SmallVec.{SmallVec}
 use Rattle.proof_tree.specs.declared.token.Token.{Token}
 use Rattle.proof_tree.specs.Plain.{plain_token}

@@ -2,9 +2,9 @@
 use Rattle.std.specs.Prelude.{ℕ, suc, ◌<◌, ◌≤◌, ◌≡◌, Bool, false, List, [], ◌∷◌, length, drop, Ok, Err, Result}
 use Rattle.packing_terms.specs.declared.Exclusion.{Exclusion}
 use Rattle.packing_terms.specs.Packing.{PlainInstance, written_container}
-use Rattle.front_terms.specs.declared.answers.FrontReason.{FrontReason}
-use Rattle.front_terms.specs.Lines.{PlainLine, FrontPart, Begun, Cornered, Placing, Pointed, FrontStage}
-use Rattle.front_terms.specs.Lines.{front_lines_after, is_whole_front}
+use Rattle.verdict_terms.specs.declared.front_answers.FrontReason.{FrontReason}
+use Rattle.verdict_terms.specs.Lines.{PlainLine, FrontPart, Begun, Cornered, Placing, Pointed, FrontStage}
+use Rattle.verdict_terms.specs.Lines.{front_lines_after, is_whole_front}
 use Rattle.front_check.specs.declared.parts.Part.{Part}
 use Rattle.front_check.specs.declared.parts.Part.TheVariants.{Begun as BegunPart, Corner as CornerPart}
 use Rattle.front_check.specs.declared.parts.Part.TheVariants.{Point as PointPart}

@@ -1,6 +1,6 @@
 -- Lines of a front as the plain data of the definitions.
 use Rattle.proof_tree.specs.Plain.{plain_token}
-use Rattle.front_terms.specs.Lines.{PlainLine, CornerAt, PointAt, PlaceAt, TreeToken}
+use Rattle.verdict_terms.specs.Lines.{PlainLine, CornerAt, PointAt, PlaceAt, TreeToken}
 use Rattle.front_check.specs.declared.line.FrontLine.{FrontLine}
 use Rattle.front_check.specs.declared.line.FrontLine.TheVariants.{Corner as CornerLine, Point as PointLine}
 use Rattle.front_check.specs.declared.line.FrontLine.TheVariants.{Place as PlaceLine, Tree as TreeLine}

@@ -2,13 +2,13 @@
 ghost use Rattle.std.specs.Prelude.{◌≡◌, ◌≤◌, ◌-◌, ℕ, Bool, [], MatchOption, Ok, Err};
 ghost use Rattle.packing_terms.specs.Packing.{PlainInstance, dims};
 ghost use Rattle.packing_terms.specs.Tokens.{PlainToken};
-ghost use Rattle.front_terms.specs.Lines.{token_line, corner_line, point_line, cornered, is_whole_front, form, range};
+ghost use Rattle.verdict_terms.specs.Lines.{token_line, corner_line, point_line, cornered, is_whole_front, form, range};
 ghost use Rattle.front_check.specs.Audits.{plain_part, plain_stage, IsInside, IsPartInside, placing};
 
 use crate::FrontReason;
 use crate::parts::{Part, Stage};
 use box_instances::Instance;
-use check_terms::RefuseCode;
+use verdict_terms::RefuseCode;
 
 /// A line of another form than is wanted.
 pub(crate) fn form() -> FrontReason

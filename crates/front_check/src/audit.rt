@@ -1,10 +1,10 @@
 //! Whether lines are those of a front, taken one by one.
 ghost use Rattle.std.specs.Prelude.{◌≡◌, ◌<◌, map, length, IfOk};
 ghost use Rattle.packing_terms.specs.Packing.{dims};
-ghost use Rattle.front_terms.specs.Lines.{CornerAt, PointAt};
-ghost use Rattle.front_terms.specs.Verdicts.{front_verdict};
-ghost use Rattle.front_terms.specs.Laws.{IsTrueFront};
-ghost use Rattle.front_terms.specs.declared.answers.FrontVerdict.TheVariants.{Good as GoodFront};
+ghost use Rattle.verdict_terms.specs.Lines.{CornerAt, PointAt};
+ghost use Rattle.verdict_terms.specs.Verdicts.{front_verdict};
+ghost use Rattle.verdict_terms.specs.Laws.{IsTrueFront};
+ghost use Rattle.verdict_terms.specs.declared.front_answers.FrontVerdict.TheVariants.{Good as GoodFront};
 ghost use Rattle.front_check.specs.Plain.{plain_line};
 ghost use Rattle.front_check.specs.Audits.{IsPartInside, IsStep, StandsAt};
 

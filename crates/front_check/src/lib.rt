@@ -3,12 +3,15 @@
 
 mod allowed;
 mod audit;
+mod containers;
+mod copying;
 mod line;
 mod parts;
 mod reading;
 
 pub use allowed::{corner_reason, is_whole, point_reason, token_reason};
 pub use audit::audit_front;
-pub use front_terms::{FrontReason, FrontVerdict};
+pub use containers::with_container;
 pub use line::FrontLine;
 pub use parts::{Part, Stage};
+pub use verdict_terms::{FrontReason, FrontVerdict};

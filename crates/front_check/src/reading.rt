@@ -6,13 +6,12 @@ ghost use Rattle.front_check.specs.Audits.{IsInside, IsReadTree, IsReadPoint};
 
 use crate::allowed::form;
 use crate::parts::Reading;
-use crate::{FrontLine, FrontReason};
+use crate::{FrontLine, FrontReason, with_container};
 use box_instances::{Instance, NoMemory};
-use check_terms::{FeedVerdict, PlaceVerdict};
 use placement_check::check_places;
 use refutation_check::Refuter;
-use sized_instances::with_container;
 use std::alloc::Global;
+use verdict_terms::{FeedVerdict, PlaceVerdict};
 
 // The tree of a corner, from the line of this index on.
 pub(crate) fn read_tree(

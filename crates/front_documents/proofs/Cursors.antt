@@ -5,13 +5,13 @@ use Rattle.text_terms.specs.Feeding.{NumberedLine, ended_line, new_lexer}
 use Rattle.verdict_terms.specs.declared.reason.Reason.{Reason}
 use Rattle.verdict_terms.specs.Documents.{Refusal, document_at_line}
 use Rattle.verdict_terms.specs.Stages.{is_blank}
-use Rattle.front_verdict_terms.specs.Verdicts.{FrontRead, DocumentStage, Opening, front_filled_line}
-use Rattle.front_verdict_terms.specs.Verdicts.{front_document_verdict}
-use Rattle.front_verdict_terms.specs.Fed.{told_front_verdict}
-use Rattle.front_verdict_terms.proofs.Told.{fronts_are_fed}
-use Rattle.front_verdict_terms.proofs.Verified.{verified_fronts_are_true}
-use Rattle.line_cursor.specs.declared.cursor.Cursor.{Cursor}
-use Rattle.line_cursor.specs.Lines.{lines_left, past_blank, IsNextFilled}
+use Rattle.verdict_terms.specs.FrontDocumentVerdicts.{FrontRead, DocumentStage, Opening, front_filled_line}
+use Rattle.verdict_terms.specs.FrontDocumentVerdicts.{front_document_verdict}
+use Rattle.verdict_terms.specs.FrontDocumentFed.{told_front_verdict}
+use Rattle.verdict_terms.proofs.FrontDocumentTold.{fronts_are_fed}
+use Rattle.verdict_terms.proofs.Verified.{verified_fronts_are_true}
+use Rattle.instance_text.specs.declared.cursor.Cursor.{Cursor}
+use Rattle.instance_text.specs.Lines.{lines_left, past_blank, IsNextFilled}
 use Rattle.front_documents.specs.declared.audit.FrontAudit.{FrontAudit}
 use Rattle.front_documents.specs.declared.audit.FrontAudit.TheVariants.{Verified, Refused, NoMemory}
 use Rattle.front_documents.specs.Audits.{claim_of, IsVerdict, IsNextTaken, IsTrueAudit, verdict_left}

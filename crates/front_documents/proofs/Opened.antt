@@ -12,13 +12,13 @@ use Rattle.verdict_terms.specs.declared.reason.Reason.{Reason}
 use Rattle.verdict_terms.specs.Reasons.{form}
 use Rattle.verdict_terms.specs.Numbers.{require, max_coordinate}
 use Rattle.verdict_terms.specs.Stages.{is_word}
-use Rattle.front_terms.specs.declared.answers.FrontReason.{FrontReason}
-use Rattle.front_terms.specs.declared.answers.FrontReason.TheVariants.{Tree, Places}
-use Rattle.front_terms.specs.Lines.{PlainLine, CornerAt, PointAt, PlaceAt, TreeToken, FrontStage, form as front_form}
-use Rattle.front_terms.specs.Lines.{range as front_range, wanted, closing_width, closing_corner}
-use Rattle.front_terms.specs.Lines.{corner_line, point_line, token_line, is_whole_front}
-use Rattle.front_verdict_terms.specs.Verdicts.{DocumentStage, Ended, line_named, named_line, told_reason}
-use Rattle.front_verdict_terms.specs.Verdicts.{told, early_reason}
+use Rattle.verdict_terms.specs.declared.front_answers.FrontReason.{FrontReason}
+use Rattle.verdict_terms.specs.declared.front_answers.FrontReason.TheVariants.{Tree, Places}
+use Rattle.verdict_terms.specs.Lines.{PlainLine, CornerAt, PointAt, PlaceAt, TreeToken, FrontStage, form as front_form}
+use Rattle.verdict_terms.specs.Lines.{range as front_range, wanted, closing_width, closing_corner}
+use Rattle.verdict_terms.specs.Lines.{corner_line, point_line, token_line, is_whole_front}
+use Rattle.verdict_terms.specs.FrontDocumentVerdicts.{DocumentStage, Ended, line_named, named_line, told_reason}
+use Rattle.verdict_terms.specs.FrontDocumentVerdicts.{told, early_reason}
 use Rattle.front_check.specs.declared.parts.Part.{Part}
 use Rattle.front_check.specs.declared.parts.Part.TheVariants.{Begun as BegunPart, Corner as CornerPart}
 use Rattle.front_check.specs.declared.parts.Part.TheVariants.{Point as PointPart}

@@ -12,13 +12,13 @@ use Rattle.packing_terms.specs.Tokens.{PlainToken}
 use Rattle.box_instances.specs.Sets.{all_boxes}
 use Rattle.text_terms.specs.Lines.{Line}
 use Rattle.text_terms.specs.Feeding.{ended_line}
-use Rattle.check_terms.specs.declared.answers.RefuseCode.{RefuseCode}
-use Rattle.check_terms.specs.declared.answers.PlaceVerdict.{PlaceVerdict}
-use Rattle.check_terms.specs.declared.answers.PlaceVerdict.TheVariants.{Good, Outside, Overlap}
-use Rattle.check_terms.specs.declared.answers.FeedVerdict.{FeedVerdict}
-use Rattle.check_terms.specs.declared.answers.FeedVerdict.TheVariants.{More, Done, Refused}
-use Rattle.check_terms.specs.Checking.{Checked, starting, inner_after, checked_by, kept_or, answered}
-use Rattle.check_terms.specs.Placing.{place_verdict}
+use Rattle.verdict_terms.specs.declared.check_answers.RefuseCode.{RefuseCode}
+use Rattle.verdict_terms.specs.declared.check_answers.PlaceVerdict.{PlaceVerdict}
+use Rattle.verdict_terms.specs.declared.check_answers.PlaceVerdict.TheVariants.{Good, Outside, Overlap}
+use Rattle.verdict_terms.specs.declared.check_answers.FeedVerdict.{FeedVerdict}
+use Rattle.verdict_terms.specs.declared.check_answers.FeedVerdict.TheVariants.{More, Done, Refused}
+use Rattle.verdict_terms.specs.Checking.{Checked, starting, inner_after, checked_by, kept_or, answered}
+use Rattle.verdict_terms.specs.Placing.{place_verdict}
 use Rattle.refutation_check.specs.Refuters.{PlainRefuter, fed}
 use Rattle.refutation_check.proofs.Whole.{whole_set, IsFedAs, fed_as}
 use Rattle.verdict_terms.specs.declared.reason.Reason.{Reason}
@@ -27,13 +27,13 @@ use Rattle.verdict_terms.specs.Reasons.{form, range}
 use Rattle.verdict_terms.specs.Numbers.{require, are_coordinates}
 use Rattle.verdict_terms.specs.Stages.{is_word, coded}
 use Rattle.verdict_terms.specs.Trees.{map_ok}
-use Rattle.front_terms.specs.Fronts.{with_container}
-use Rattle.front_terms.specs.Lines.{PlainLine, CornerAt, PointAt, PlaceAt, TreeToken, form as front_form}
-use Rattle.front_terms.specs.Lines.{grown as front_grown, tested, placed, is_whole_front}
-use Rattle.front_verdict_terms.specs.Verdicts.{DocumentStage, Ended, line_named, named_line, told, front_filled_line}
+use Rattle.verdict_terms.specs.Fronts.{with_container}
+use Rattle.verdict_terms.specs.Lines.{PlainLine, CornerAt, PointAt, PlaceAt, TreeToken, form as front_form}
+use Rattle.verdict_terms.specs.Lines.{grown as front_grown, tested, placed, is_whole_front}
+use Rattle.verdict_terms.specs.FrontDocumentVerdicts.{DocumentStage, Ended, line_named, named_line, told, front_filled_line}
 use Rattle.front_check.specs.Audits.{growing, placing, pointed}
-use Rattle.line_cursor.specs.declared.cursor.Cursor.{Cursor}
-use Rattle.line_cursor.specs.Lines.{lines_left}
+use Rattle.instance_text.specs.declared.cursor.Cursor.{Cursor}
+use Rattle.instance_text.specs.Lines.{lines_left}
 use Rattle.front_documents.specs.declared.audit.FrontAudit.{FrontAudit}
 use Rattle.front_documents.specs.declared.audit.FrontAudit.TheVariants.{Refused as RefusedAudit}
 use Rattle.front_documents.specs.Audits.{claim_of, verdict_left, IsVerdict, IsNextTaken}

@@ -6,14 +6,14 @@ use Rattle.std.proofs.lemmas.Bool.{ne_eqb, and_right}
 use Rattle.packing_terms.specs.Results.{◌>>=◌}
 use Rattle.text_terms.specs.Lines.{same_bytes, number_of}
 use Rattle.text_terms.specs.Texts.{first_word}
-use Rattle.document_terms.specs.TokenLines.{token_of}
+use Rattle.text_terms.specs.TokenLines.{token_of}
 use Rattle.verdict_terms.specs.declared.reason.Reason.{Reason}
 use Rattle.verdict_terms.specs.Reasons.{form, range}
 use Rattle.verdict_terms.specs.Numbers.{wanted_by, all_wanted, numbers_line, require}
 use Rattle.verdict_terms.specs.Stages.{rest_of}
-use Rattle.front_terms.specs.Lines.{PlainLine, CornerAt, PointAt, PlaceAt}
-use Rattle.front_verdict_terms.specs.Verdicts.{FrontClaim, two_by, token_by, line_named, front_claim, most_points}
-use Rattle.front_verdict_terms.specs.Verdicts.{claim_by}
+use Rattle.verdict_terms.specs.Lines.{PlainLine, CornerAt, PointAt, PlaceAt}
+use Rattle.verdict_terms.specs.FrontDocumentVerdicts.{FrontClaim, two_by, token_by, line_named, front_claim, most_points}
+use Rattle.verdict_terms.specs.FrontDocumentVerdicts.{claim_by}
 use Rattle.front_documents.specs.Audits.{claim_of}
 use Rattle.front_documents.specs.Heads.{completeness, counted_points}
 use Rattle.front_documents.specs.Named.{both, pair_behind}

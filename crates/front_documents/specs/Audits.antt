@@ -5,13 +5,13 @@ use Rattle.packing_terms.specs.Limits.{IsInstance}
 use Rattle.packing_terms.specs.Results.{◌>>=◌}
 use Rattle.text_terms.specs.Feeding.{ended_line}
 use Rattle.verdict_terms.specs.Documents.{Refusal, document_at_line}
-use Rattle.front_verdict_terms.specs.Verdicts.{FrontClaim, FrontRead, DocumentStage, front_filled_line, front_at_end}
-use Rattle.front_verdict_terms.specs.Verdicts.{front_document_verdict}
-use Rattle.front_verdict_terms.specs.Fed.{told_front_verdict}
-use Rattle.front_verdict_terms.specs.Points.{points_of_text}
-use Rattle.front_verdict_terms.specs.Laws.{IsTrueFrontOf}
-use Rattle.line_cursor.specs.declared.cursor.Cursor.{Cursor}
-use Rattle.line_cursor.specs.Lines.{lines_left}
+use Rattle.verdict_terms.specs.FrontDocumentVerdicts.{FrontClaim, FrontRead, DocumentStage, front_filled_line, front_at_end}
+use Rattle.verdict_terms.specs.FrontDocumentVerdicts.{front_document_verdict}
+use Rattle.verdict_terms.specs.FrontDocumentFed.{told_front_verdict}
+use Rattle.verdict_terms.specs.Points.{points_of_text}
+use Rattle.verdict_terms.specs.FrontDocumentLaws.{IsTrueFrontOf}
+use Rattle.instance_text.specs.declared.cursor.Cursor.{Cursor}
+use Rattle.instance_text.specs.Lines.{lines_left}
 use Rattle.front_documents.specs.declared.audit.FrontAudit.{FrontAudit}
 use Rattle.front_documents.specs.declared.audit.FrontAudit.TheVariants.{Verified, Refused, NoMemory}
 

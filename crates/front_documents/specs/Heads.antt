@@ -7,8 +7,8 @@ use Rattle.verdict_terms.specs.declared.reason.Reason.{Reason}
 use Rattle.verdict_terms.specs.Reasons.{form, range}
 use Rattle.verdict_terms.specs.Numbers.{require, wanted}
 use Rattle.verdict_terms.specs.Stages.{text_fault}
-use Rattle.front_terms.specs.Lines.{announced}
-use Rattle.front_verdict_terms.specs.Verdicts.{FrontClaim, DocumentStage, Fronting, most_points}
+use Rattle.verdict_terms.specs.Lines.{announced}
+use Rattle.verdict_terms.specs.FrontDocumentVerdicts.{FrontClaim, DocumentStage, Fronting, most_points}
 use Rattle.front_documents.specs.Audits.{claim_of}
 use Rattle.front_documents.specs.declared.head.Head.{Head}
 use Rattle.front_documents.specs.declared.head.TextStop.{TextStop}

@@ -2,7 +2,7 @@
 use Rattle.std.specs.Prelude.{ℕ, List, [], ◌∷◌, Option, Some, None}
 use Rattle.text_terms.specs.Lines.{number_of}
 use Rattle.proof_tree.specs.Plain.{plain_token}
-use Rattle.front_terms.specs.Lines.{PlainLine, CornerAt, PointAt, PlaceAt, TreeToken}
+use Rattle.verdict_terms.specs.Lines.{PlainLine, CornerAt, PointAt, PlaceAt, TreeToken}
 use Rattle.front_documents.specs.declared.lines.NamedLine.{NamedLine}
 use Rattle.front_documents.specs.declared.lines.NamedLine.TheVariants.{Corner, Point, Place, Tree}
 

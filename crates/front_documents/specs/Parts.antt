@@ -5,25 +5,25 @@ use Rattle.packing_terms.specs.declared.Exclusion.{Exclusion}
 use Rattle.packing_terms.specs.Packing.{PlainInstance}
 use Rattle.box_instances.specs.Sets.{all_boxes}
 use Rattle.text_terms.specs.Lines.{Line}
-use Rattle.check_terms.specs.Checking.{inner_after}
-use Rattle.check_terms.specs.Placing.{place_verdict}
-use Rattle.check_terms.specs.declared.answers.PlaceVerdict.{PlaceVerdict}
-use Rattle.check_terms.specs.declared.answers.PlaceVerdict.TheVariants.{Good, Outside, Overlap}
+use Rattle.verdict_terms.specs.Checking.{inner_after}
+use Rattle.verdict_terms.specs.Placing.{place_verdict}
+use Rattle.verdict_terms.specs.declared.check_answers.PlaceVerdict.{PlaceVerdict}
+use Rattle.verdict_terms.specs.declared.check_answers.PlaceVerdict.TheVariants.{Good, Outside, Overlap}
 use Rattle.refutation_check.specs.Refuters.{PlainRefuter}
 use Rattle.verdict_terms.specs.declared.reason.Reason.{Reason}
 use Rattle.verdict_terms.specs.declared.reason.Reason.TheVariants.{Token, OutsideAt, OverlapAt, TooShort}
 use Rattle.verdict_terms.specs.Reasons.{form, range}
 use Rattle.verdict_terms.specs.Numbers.{require, max_coordinate, are_coordinates}
 use Rattle.verdict_terms.specs.Stages.{is_word, coded}
-use Rattle.front_terms.specs.declared.answers.FrontReason.{FrontReason}
-use Rattle.front_terms.specs.declared.answers.FrontReason.TheVariants.{Tree, Places}
-use Rattle.front_terms.specs.Lines.{PlainLine, PlaceAt, TreeToken, FrontStage}
-use Rattle.front_verdict_terms.specs.Verdicts.{DocumentStage, Fronting, Ended, line_named, named_line}
-use Rattle.front_verdict_terms.specs.Verdicts.{front_filled_line}
+use Rattle.verdict_terms.specs.declared.front_answers.FrontReason.{FrontReason}
+use Rattle.verdict_terms.specs.declared.front_answers.FrontReason.TheVariants.{Tree, Places}
+use Rattle.verdict_terms.specs.Lines.{PlainLine, PlaceAt, TreeToken, FrontStage}
+use Rattle.verdict_terms.specs.FrontDocumentVerdicts.{DocumentStage, Fronting, Ended, line_named, named_line}
+use Rattle.verdict_terms.specs.FrontDocumentVerdicts.{front_filled_line}
 use Rattle.front_check.specs.declared.parts.Stage.{Stage}
 use Rattle.front_check.specs.Audits.{plain_stage, growing, placing, pointed, IsInside, IsPartInside}
-use Rattle.line_cursor.specs.declared.cursor.Cursor.{Cursor}
-use Rattle.line_cursor.specs.Lines.{lines_left}
+use Rattle.instance_text.specs.declared.cursor.Cursor.{Cursor}
+use Rattle.instance_text.specs.Lines.{lines_left}
 use Rattle.front_documents.specs.declared.audit.FrontAudit.{FrontAudit}
 use Rattle.front_documents.specs.declared.opening.OpenPart.{OpenPart}
 use Rattle.front_documents.specs.declared.opening.OpenPart.TheVariants.{Corner as OpenCorner, Point as OpenPoint}

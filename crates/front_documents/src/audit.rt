@@ -1,13 +1,13 @@
 //! The audit of a document of a front that stands in memory.
 ghost use Rattle.std.specs.Prelude.{◌≡◌, ◌+◌, ◌<◌, ◌^◌};
 ghost use Rattle.verdict_terms.specs.declared.reason.Reason.TheVariants.{TooShort};
-ghost use Rattle.front_verdict_terms.specs.Verdicts.{Opening, front_document_verdict};
-ghost use Rattle.line_cursor.specs.Lines.{IsAmong};
+ghost use Rattle.verdict_terms.specs.FrontDocumentVerdicts.{Opening, front_document_verdict};
+ghost use Rattle.instance_text.specs.Lines.{IsAmong};
 ghost use Rattle.front_documents.specs.Audits.{IsVerdict, IsTrueAudit, verdict_left};
 
 use crate::head::read_head;
 use crate::steps::read_front;
-use line_cursor::Cursor;
+use instance_text::Cursor;
 use std::alloc::Global;
 use verdict_terms::Reason;
 

@@ -5,17 +5,18 @@ ghost use Rattle.text_terms.specs.Texts.{no_parts};
 ghost use Rattle.text_terms.specs.Feeding.{ended_line};
 ghost use Rattle.verdict_terms.specs.Stages.{rest_of};
 ghost use Rattle.verdict_terms.specs.Trees.{map_ok};
-ghost use Rattle.front_verdict_terms.specs.Verdicts.{Opening, Reading, front_claim, front_filled_line, front_result_line};
-ghost use Rattle.line_cursor.specs.Lines.{IsAmong};
+ghost use Rattle.verdict_terms.specs.FrontDocumentVerdicts.{Opening, Reading, front_claim, front_filled_line, front_result_line};
+ghost use Rattle.instance_text.specs.Lines.{IsAmong};
 ghost use Rattle.front_documents.specs.Audits.{IsVerdict, verdict_left};
-ghost use Rattle.line_cursor.specs.Readers.{held_parts, IsHeldHead};
+ghost use Rattle.instance_text.specs.Readers.{held_parts, IsHeldHead};
 ghost use Rattle.front_documents.specs.Heads.{TakesText, completeness, counted_points, claim_told, head_stage};
 
 use crate::audit::{FrontAudit, short};
 use crate::lines::{FORM, RANGE, next_taken};
 use box_instances::Instance;
-use instance_text::{InstanceReader, LineLexer, ReadTextError};
-use line_cursor::{Cursor, is_result, is_same, is_word};
+use instance_text::{
+    Cursor, InstanceReader, LineLexer, ReadTextError, is_result, is_same, is_word,
+};
 use std::alloc::Global;
 use text_terms::read_number;
 use verdict_terms::Reason;

@@ -1,17 +1,15 @@
 //! The lines that are left, as the verdict takes them, and a line of a front by its words.
 ghost use Rattle.std.specs.Prelude.{◌≡◌, ◌<◌, length, true, false, option_map};
-ghost use Rattle.front_verdict_terms.specs.Verdicts.{line_named};
-ghost use Rattle.line_cursor.specs.Lines.{IsAmong, lines_left};
+ghost use Rattle.verdict_terms.specs.FrontDocumentVerdicts.{line_named};
+ghost use Rattle.instance_text.specs.Lines.{IsAmong, lines_left};
 ghost use Rattle.front_documents.specs.Audits.{IsNextTaken};
 ghost use Rattle.front_documents.specs.Named.{pair_behind, plain_named};
 
-use check_terms::RefuseCode;
-use instance_text::LineLexer;
-use line_cursor::{Cursor, is_first, next_filled};
+use instance_text::{Cursor, LineLexer, is_first, next_filled};
 use proof_tree::{Token, read_token};
 use std::alloc::Global;
 use text_terms::read_number;
-use verdict_terms::Reason;
+use verdict_terms::{Reason, RefuseCode};
 
 /// The line has another form than the place wants.
 pub(crate) const FORM: Reason = Reason::Token {

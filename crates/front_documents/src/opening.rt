@@ -2,15 +2,14 @@
 ghost use Rattle.std.specs.Prelude.{◌≡◌, ℕ};
 ghost use Rattle.packing_terms.specs.Packing.{dims};
 ghost use Rattle.text_terms.specs.Feeding.{ended_line};
-ghost use Rattle.front_terms.specs.Lines.{CornerAt, PointAt};
+ghost use Rattle.verdict_terms.specs.Lines.{CornerAt, PointAt};
 ghost use Rattle.front_check.specs.Audits.{IsPartInside};
 ghost use Rattle.front_documents.specs.Parts.{IsOpened, clamped, told_code, opened_by, taken_by};
 
 use crate::lines::{FORM, NamedLine, named_line};
 use box_instances::Instance;
 use front_check::{FrontReason, Stage, corner_reason, is_whole, point_reason, token_reason};
-use instance_text::LineLexer;
-use line_cursor::is_word;
+use instance_text::{LineLexer, is_word};
 use std::alloc::Global;
 use verdict_terms::Reason;
 

@@ -2,16 +2,16 @@
 ghost use Rattle.std.specs.Prelude.{◌≡◌, ◌≤◌, ◌*◌, length, None};
 ghost use Rattle.packing_terms.specs.Packing.{dims, box_count};
 ghost use Rattle.front_check.specs.Audits.{IsInside};
-ghost use Rattle.line_cursor.specs.Lines.{IsAmong, lines_left};
+ghost use Rattle.instance_text.specs.Lines.{IsAmong, lines_left};
 ghost use Rattle.front_documents.specs.Parts.{places_stage, point_stage, IsPartRead, places_reason};
 
 use crate::audit::{FrontAudit, short};
 use crate::lines::next_taken;
 use crate::reading::{PlaceStop, take_place};
 use box_instances::Instance;
-use line_cursor::Cursor;
+use front_check::with_container;
+use instance_text::Cursor;
 use placement_check::{PlaceVerdict, check_places};
-use sized_instances::with_container;
 use std::alloc::Global;
 use verdict_terms::Reason;
 

@@ -5,12 +5,10 @@ ghost use Rattle.verdict_terms.specs.Trees.{map_ok};
 ghost use Rattle.front_documents.specs.Parts.{IsOpenTree, IsGrown, TakesPlace, place_of};
 
 use crate::lines::{FORM, NamedLine, RANGE, named_line};
-use check_terms::FeedVerdict;
-use instance_text::LineLexer;
-use line_cursor::is_word;
+use instance_text::{LineLexer, is_word};
 use refutation_check::Refuter;
 use std::alloc::Global;
-use verdict_terms::Reason;
+use verdict_terms::{FeedVerdict, Reason};
 
 // The most that a coordinate is.
 const MOST_COORDINATE: u128 = 4_294_967_295;

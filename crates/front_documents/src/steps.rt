@@ -1,9 +1,9 @@
 //! The lines behind the result line, one part after another.
 ghost use Rattle.std.specs.Prelude.{◌≡◌, IfOk, IfErr};
 ghost use Rattle.packing_terms.specs.Packing.{PlainInstance, dims};
-ghost use Rattle.front_terms.specs.Lines.{announced};
-ghost use Rattle.front_verdict_terms.specs.Verdicts.{Ended};
-ghost use Rattle.line_cursor.specs.Lines.{IsAmong};
+ghost use Rattle.verdict_terms.specs.Lines.{announced};
+ghost use Rattle.verdict_terms.specs.FrontDocumentVerdicts.{Ended};
+ghost use Rattle.instance_text.specs.Lines.{IsAmong};
 ghost use Rattle.front_documents.specs.Audits.{IsVerdict, claim_of, verdict_left};
 ghost use Rattle.front_documents.specs.Parts.{at_front, IsOpenable, IsReadOn, IsReadUpTo};
 
@@ -14,7 +14,7 @@ use crate::places::read_places;
 use crate::tree::read_tree;
 use box_instances::Instance;
 use front_check::{Part, Stage};
-use line_cursor::Cursor;
+use instance_text::Cursor;
 use std::alloc::Global;
 
 // What is left behind `end`.

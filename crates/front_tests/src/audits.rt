@@ -1,11 +1,11 @@
 //! Verdicts on the lines of a front.
 use crate::texts::pair;
 use box_instances::Sides;
-use check_terms::{PlaceVerdict, RefuseCode};
 use proof_tree::Token;
 use size_front::{FrontLine, FrontReason, FrontVerdict, audit_front};
 use std::alloc::Global;
 use std::test::Fail;
+use verdict_terms::{PlaceVerdict, RefuseCode};
 
 fn corner(width: u32, height: u32) -> FrontLine {
     FrontLine::Corner { width, height }

@@ -1,9 +1,8 @@
 //! Documents of fronts that stand in memory, and the audit of each.
-use check_terms::RefuseCode;
 use front_documents::{FrontAudit, audit_front_document};
 use std::alloc::Global;
 use std::test::Fail;
-use verdict_terms::Reason;
+use verdict_terms::{Reason, RefuseCode};
 
 const FORM: Reason = Reason::Token {
     code: RefuseCode::Kind,

@@ -1,1 +1,2 @@
 pub mod OnRun
+pub mod Narrowing

@@ -2,8 +2,8 @@
 use Rattle.std.proofs.Common.{◌≡◌, ℕ, refl, sym, ap, ap₂, subst, ◌∙◌, arith, List, [], ◌∷◌, ◌++◌, length, All}
 use Rattle.std.proofs.lemmas.List.{get_or_append_left, get_or_push, map_push}
 use Rattle.std.proofs.lemmas.List.Elements.{All-tail, All-head}
-use Rattle.explained_terms.specs.Steps.{PlainStep}
-use Rattle.explained_terms.specs.Steps.PlainStep.{On as PlainOn}
+use Rattle.verdict_terms.specs.Steps.{PlainStep}
+use Rattle.verdict_terms.specs.Steps.PlainStep.{On as PlainOn}
 use Rattle.line_proofs.specs.declared.short_step.ShortStep.{ShortStep}
 use Rattle.line_proofs.specs.declared.short_step.ShortStep.TheVariants.{Pair, Apart, Triple, Compose, Cycle, Order}
 use Rattle.line_proofs.specs.declared.short_step.ShortStep.TheVariants.{Chain, On, Clash, SplitApart, SplitOrder}

@@ -7,20 +7,20 @@ use Rattle.packing_terms.specs.Relations.{allows}
 use Rattle.packing_terms.specs.Rules.Rule.{Compose}
 use Rattle.packing_terms.proofs.Sets.{same_bool}
 use Rattle.packing_terms.proofs.Members.{any_at, any_from}
-use Rattle.rule_terms.specs.Rounds.{rels}
-use Rattle.explained_terms.proofs.Leaves.{rel_in}
+use Rattle.packing_terms.specs.Rounds.{rels}
+use Rattle.verdict_terms.proofs.Leaves.{rel_in}
 use Rattle.packing_terms.specs.declared.Rel.{Rel}
 use Rattle.packing_terms.specs.declared.Rel.TheVariants.{Overlap, Before, After}
 use Rattle.packing_terms.specs.declared.Exclusion.{Exclusion}
 use Rattle.packing_terms.specs.Packing.{PlainInstance}
 use Rattle.packing_terms.specs.Exclusions.{Exclusions, excludes, exclusion_at}
 use Rattle.packing_terms.specs.Rules.{Rule, dim_of, first_of, second_of}
-use Rattle.rule_terms.specs.Steps.{with_exclusion}
-use Rattle.rule_terms.specs.Applied.{narrowed_by, narrows, narrowed, is_narrowed}
+use Rattle.packing_terms.specs.Steps.{with_exclusion}
+use Rattle.packing_terms.specs.Applied.{narrowed_by, narrows, narrowed, is_narrowed}
 use Rattle.relation_table.specs.Masks.{mask_has, IsComposed}
 use Rattle.edge_state.specs.Edges.{PlainEdges}
-use Rattle.explained_terms.specs.Explaining.{leaves}
-use Rattle.explained_terms.specs.Judging.{applies}
+use Rattle.verdict_terms.specs.Explaining.{leaves}
+use Rattle.verdict_terms.specs.ExplainedJudging.{applies}
 use Rattle.line_proofs.specs.Taken.{IsRuleTaken}
 
 pub same_narrowed : (es : List Exclusion) (i u v : ℕ) (k l : Rel → Bool) → ((r : Rel) → k r ≡ l r)

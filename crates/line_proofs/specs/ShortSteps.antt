@@ -1,11 +1,11 @@
 -- Lists of steps that are held in a few bytes each, beside those that are wider.
 use Rattle.std.specs.Prelude.{ℕ, ◌≡◌, ◌<◌, List, map, slice_index_or}
 use Rattle.packing_terms.specs.Tokens.PlainToken.{Apart as ApartToken, Order as OrderToken}
-use Rattle.explained_terms.specs.Steps.{PlainStep}
-use Rattle.explained_terms.specs.Steps.PlainStep.{Pair as PlainPair, Apart as PlainApart, Triple as PlainTriple}
-use Rattle.explained_terms.specs.Steps.PlainStep.{Compose as PlainCompose, Cycle as PlainCycle, Order as PlainOrder}
-use Rattle.explained_terms.specs.Steps.PlainStep.{Chain as PlainChain, On as PlainOn, Clash as PlainClash}
-use Rattle.explained_terms.specs.Steps.PlainStep.{Plain as PlainPlain}
+use Rattle.verdict_terms.specs.Steps.{PlainStep}
+use Rattle.verdict_terms.specs.Steps.PlainStep.{Pair as PlainPair, Apart as PlainApart, Triple as PlainTriple}
+use Rattle.verdict_terms.specs.Steps.PlainStep.{Compose as PlainCompose, Cycle as PlainCycle, Order as PlainOrder}
+use Rattle.verdict_terms.specs.Steps.PlainStep.{Chain as PlainChain, On as PlainOn, Clash as PlainClash}
+use Rattle.verdict_terms.specs.Steps.PlainStep.{Plain as PlainPlain}
 use Rattle.line_proofs.specs.declared.short_step.ShortStep.{ShortStep}
 use Rattle.line_proofs.specs.declared.short_step.ShortStep.TheVariants.{Pair, Apart, Triple, Compose, Cycle, Order}
 use Rattle.line_proofs.specs.declared.short_step.ShortStep.TheVariants.{Chain, On, Clash, SplitApart, SplitOrder}

@@ -3,7 +3,7 @@ ghost use Rattle.std.specs.Prelude.{◌≡◌, ◌≤◌, [], ◌∷◌, length,
 ghost use Rattle.packing_terms.specs.Packing.{box_count};
 ghost use Rattle.packing_terms.specs.Exclusions.{relation_count};
 ghost use Rattle.packing_terms.specs.Limits.{IsDimCount, IsBoxCount};
-ghost use Rattle.explained_terms.specs.Auditing.{starting, answered, is_whole, most_open_nodes};
+ghost use Rattle.verdict_terms.specs.Auditing.{starting, answered, is_whole, most_open_nodes};
 ghost use Rattle.line_proofs.specs.Plain.{plain_step};
 ghost use Rattle.line_proofs.specs.Auditors.{fed, IsAdvanced};
 ghost use Rattle.line_proofs.specs.Waiting.{AreBelow};
@@ -14,9 +14,9 @@ use crate::lines::{Taken, take_line};
 use crate::waiting::{Waiting, enter};
 use box_instances::{Instance, NoMemory};
 use edge_state::EdgeState;
-use explained_terms::{AuditCode, AuditVerdict};
 use std::alloc::Global;
 use std::marker::Model;
+use verdict_terms::{AuditCode, AuditVerdict};
 
 /// Audits an explained refutation of an instance, line by line. It takes all its memory when it is
 /// made, and uses no closure.

@@ -1,6 +1,6 @@
 //! A chain begun, by its lines so far.
 ghost use Rattle.std.specs.Prelude.{◌≡◌, ◌<◌, ◌≤◌, ◌+◌, ◌∷◌, ◌++◌, [], ℕ, length, vec_capacity, Some, None, take, if◌then◌else◌, true, false};
-ghost use Rattle.explained_terms.specs.Judging.{with_box, is_first, has_all, part_of};
+ghost use Rattle.verdict_terms.specs.ExplainedJudging.{with_box, is_first, has_all, part_of};
 ghost use Rattle.line_proofs.specs.Chains.{chain_at, chain_seen};
 
 /// What the first line of a chain step says; the dimension counts from 0.

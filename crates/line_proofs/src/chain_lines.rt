@@ -4,8 +4,8 @@ ghost use Rattle.std.specs.List.{list_any, All};
 ghost use Rattle.packing_terms.specs.Packing.{dims, box_count};
 ghost use Rattle.packing_terms.specs.Exclusions.{excludes};
 ghost use Rattle.packing_terms.specs.Limits.{max_boxes};
-ghost use Rattle.explained_terms.specs.Judging.{goes_on, part_of, chain_changes, is_first, has_all, last_of, front_of};
-ghost use Rattle.explained_terms.specs.Kept.{IsGrown};
+ghost use Rattle.verdict_terms.specs.ExplainedJudging.{goes_on, part_of, chain_changes, is_first, has_all, last_of, front_of};
+ghost use Rattle.verdict_terms.specs.Kept.{IsGrown};
 ghost use Rattle.line_proofs.specs.Chains.{chain_at};
 ghost use Rattle.line_proofs.specs.Boxed.{IsEnded, IsBoxJudged};
 
@@ -15,7 +15,7 @@ use crate::judging::from_text;
 use crate::naming::names_box;
 use box_instances::Instance;
 use edge_state::{EdgeState, Rel};
-use explained_terms::AuditCode;
+use verdict_terms::AuditCode;
 
 // Whether a box goes on with these: it isn't among them, and the last one is surely before it.
 pub(crate) fn follows(state: &EdgeState, dim: u32, part: &[u32], v: u32) -> bool

@@ -6,15 +6,15 @@ ghost use Rattle.packing_terms.specs.Exclusions.{excludes};
 ghost use Rattle.packing_terms.specs.Rules.Rule.{Pair as PairRule, Apart as ApartRule, Triple as TripleRule, Compose as ComposeRule, Cycle as CycleRule, Order as OrderRule};
 ghost use Rattle.packing_terms.specs.Tokens.PlainToken.{Apart as PlainApart, Order as PlainOrder, TooLarge as PlainTooLarge, Scales as PlainScales};
 ghost use Rattle.packing_terms.specs.Refutation.{exclusion_in_text as exclusion_of};
-ghost use Rattle.check_terms.specs.Judging.{refusal};
+ghost use Rattle.verdict_terms.specs.Judging.{refusal};
 ghost use Rattle.edge_state.specs.Edges.{oldest};
-ghost use Rattle.explained_terms.specs.Steps.PlainStep.{On as PlainOn, Clash as PlainClash, Plain as PlainPlain, Chain as PlainChain};
-ghost use Rattle.explained_terms.specs.Judging.{audit_code, as_audit, token_refusal, rest_refusal};
+ghost use Rattle.verdict_terms.specs.Steps.PlainStep.{On as PlainOn, Clash as PlainClash, Plain as PlainPlain, Chain as PlainChain};
+ghost use Rattle.verdict_terms.specs.ExplainedJudging.{audit_code, as_audit, token_refusal, rest_refusal};
 ghost use Rattle.proof_tree.specs.Plain.{plain_token};
 ghost use Rattle.line_proofs.specs.Plain.{plain_step};
 ghost use Rattle.line_proofs.specs.Chains.{chain_at, chain_seen};
 ghost use Rattle.line_proofs.specs.Taken.{IsStepJudged};
-ghost use Rattle.explained_terms.specs.declared.answers.AuditCode.TheVariants.{Step as StepCode};
+ghost use Rattle.verdict_terms.specs.declared.explained_answers.AuditCode.TheVariants.{Step as StepCode};
 
 use crate::Step;
 use crate::boxes::{front_of, is_among, last_of, leads_to, weight_of};
@@ -24,8 +24,8 @@ use crate::rules::{take_apart, take_compose, take_cycle, take_order, take_pair, 
 use crate::waiting::Waiting;
 use box_instances::Instance;
 use edge_state::{EdgeState, Exclusion, Rel};
-use explained_terms::AuditCode;
 use proof_tree::Token;
+use verdict_terms::AuditCode;
 
 /// The number from 0 of a number of a text.
 pub(crate) fn from_text(number: u32) -> u32

@@ -20,11 +20,11 @@ mod waiting;
 mod writing;
 
 pub use auditor::Auditor;
-pub use explained_terms::{AuditCode, AuditVerdict};
 pub use reading::read_step;
 pub use rules::{take_apart, take_compose, take_cycle, take_order, take_pair, take_triple};
 pub use short_step::HeldStep;
 pub use step::Step;
 pub use step_list::StepList;
+pub use verdict_terms::{AuditCode, AuditVerdict};
 pub use waiting::{Waiting, enter};
 pub use writing::write_step;

@@ -2,9 +2,9 @@
 ghost use Rattle.std.specs.Prelude.{◌≡◌, ◌≤◌, ℕ, length, vec_capacity, Some, None, List};
 ghost use Rattle.packing_terms.specs.Packing.{dims, box_count};
 ghost use Rattle.packing_terms.specs.Tokens.PlainToken.{Apart as PlainApart, Order as PlainOrder};
-ghost use Rattle.explained_terms.specs.Judging.{at_rest, token_refusal};
-ghost use Rattle.explained_terms.specs.Steps.PlainStep.{Chain as PlainChain, Plain as PlainPlain};
-ghost use Rattle.explained_terms.specs.Kept.{IsSoundAt, IsGrown};
+ghost use Rattle.verdict_terms.specs.ExplainedJudging.{at_rest, token_refusal};
+ghost use Rattle.verdict_terms.specs.Steps.PlainStep.{Chain as PlainChain, Plain as PlainPlain};
+ghost use Rattle.verdict_terms.specs.Kept.{IsSoundAt, IsGrown};
 ghost use Rattle.packing_terms.specs.declared.Exclusion.{Exclusion as PlainExclusion};
 ghost use Rattle.proof_tree.specs.Plain.{plain_token};
 ghost use Rattle.line_proofs.specs.Plain.{plain_step};
@@ -24,8 +24,8 @@ use crate::tuples::tuple_audit;
 use crate::waiting::Waiting;
 use box_instances::Instance;
 use edge_state::{EdgeState, Rel};
-use explained_terms::AuditCode;
 use proof_tree::Token;
+use verdict_terms::AuditCode;
 
 /// What a line came to.
 #[derive(Clone, Copy)]

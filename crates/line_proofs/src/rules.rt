@@ -8,8 +8,8 @@ ghost use Rattle.packing_terms.specs.Exclusions.{excludes, IsEdgeAmong};
 ghost use Rattle.packing_terms.specs.Rules.{Rule, AreBoxesAmong};
 ghost use Rattle.packing_terms.specs.Rules.Rule.{Pair, Apart, Triple, Compose, Cycle, Order};
 ghost use Rattle.packing_terms.specs.Sums.{below};
-ghost use Rattle.rule_terms.specs.Rounds.{is_joined};
-ghost use Rattle.rule_terms.specs.Applied.{narrowed, is_narrowed};
+ghost use Rattle.packing_terms.specs.Rounds.{is_joined};
+ghost use Rattle.packing_terms.specs.Applied.{narrowed, is_narrowed};
 ghost use Rattle.relation_table.specs.Masks.{mask_has};
 ghost use Rattle.line_proofs.specs.Taken.{IsRuleTaken};
 

@@ -1,7 +1,7 @@
 //! Steps in a few bytes.
 ghost use Rattle.std.specs.Prelude.{◌≡◌, ◌<◌, ℕ, List, length, map, IfSome};
-ghost use Rattle.explained_terms.specs.Steps.{PlainStep};
-ghost use Rattle.explained_terms.specs.Steps.PlainStep.{Plain as PlainPlain};
+ghost use Rattle.verdict_terms.specs.Steps.{PlainStep};
+ghost use Rattle.verdict_terms.specs.Steps.PlainStep.{Plain as PlainPlain};
 ghost use Rattle.proof_tree.specs.Plain.{plain_token};
 ghost use Rattle.line_proofs.specs.Plain.{plain_step};
 ghost use Rattle.line_proofs.specs.ShortSteps.{shown_step, IsWithin, IsShortOf, held_step};

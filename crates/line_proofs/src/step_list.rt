@@ -1,6 +1,6 @@
 //! Lists of steps in a few bytes each.
 ghost use Rattle.std.specs.Prelude.{◌≡◌, ◌<◌, ◌++◌, ◌∷◌, [], ℕ, length, slice_index_or, IfOk, OnOk, OnErr};
-ghost use Rattle.explained_terms.specs.Steps.{PlainStep};
+ghost use Rattle.verdict_terms.specs.Steps.{PlainStep};
 ghost use Rattle.line_proofs.specs.Plain.{plain_step};
 ghost use Rattle.line_proofs.specs.ShortSteps.{shown_step, IsWithin, held_step};
 
@@ -24,7 +24,7 @@ pub struct StepList {
 
 impl Model for StepList {
     ghost use Rattle.std.specs.Prelude.{List, All, length, map};
-    ghost use Rattle.explained_terms.specs.Steps.{PlainStep};
+    ghost use Rattle.verdict_terms.specs.Steps.{PlainStep};
     ghost use Rattle.line_proofs.specs.Plain.{plain_step};
     ghost use Rattle.line_proofs.specs.ShortSteps.{shown_steps, IsWithin};
 

@@ -4,13 +4,12 @@ ghost use Rattle.std.specs.Prelude.{◌≡◌, List, length};
 ghost use Rattle.packing_terms.specs.declared.Exclusion.{Exclusion as PlainExclusion};
 ghost use Rattle.packing_terms.specs.Packing.{dims};
 ghost use Rattle.packing_terms.specs.Tokens.PlainToken.{Scales as PlainScales};
-ghost use Rattle.check_terms.specs.Judging.{are_legal, tuple_refusal};
-ghost use Rattle.explained_terms.specs.Judging.{audit_code, token_refusal};
+ghost use Rattle.verdict_terms.specs.Judging.{are_legal, tuple_refusal};
+ghost use Rattle.verdict_terms.specs.ExplainedJudging.{audit_code, token_refusal};
 
 use box_instances::Instance;
-use check_terms::RefuseCode;
 use conservative_scales::{ScaleFn, exceeds, legal};
-use explained_terms::AuditCode;
+use verdict_terms::{AuditCode, RefuseCode};
 
 // Whether the tuple has a legal function for each dimension.
 fn are_legal(instance: &Instance, tuple: &[ScaleFn]) -> bool

@@ -1,6 +1,6 @@
 //! The line of a step, in its one spelling.
 ghost use Rattle.std.specs.Prelude.{◌≤◌, ℕ};
-ghost use Rattle.explained_terms.specs.StepLines.{HasStepLine, IsFedBack};
+ghost use Rattle.verdict_terms.specs.StepLines.{HasStepLine, IsFedBack};
 ghost use Rattle.pack_streams.specs.Writing.{Continues, Writes};
 ghost use Rattle.line_proofs.specs.Plain.{plain_step};
 ghost use Rattle.line_proofs.specs.StepTexts.{step_line};

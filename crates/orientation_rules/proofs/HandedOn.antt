@@ -2,7 +2,7 @@
 use Rattle.std.proofs.Common.{◌≡◌, ◌≢◌, ℕ, ◌+◌, ◌*◌, ◌<◌, ◌≤◌, ◌⊎◌, inl, inr, refl, sym, ap, subst, ◌∙◌, arith, Bool}
 use Rattle.std.proofs.Common.{true, false, not, ◌&&◌, ◌||◌, eqb, List, slice_index}
 use Rattle.std.proofs.lemmas.Bool.{true≢false, cases_Bool, cases_eq, or_parts, or_cases, and_parts, eqb-true, eq-eqb}
-use Rattle.rule_terms.specs.Runs.{IsOneWay, HasNoHeavierRun, room_to_rise}
+use Rattle.packing_terms.specs.Runs.{IsOneWay, HasNoHeavierRun, room_to_rise}
 use Rattle.edge_state.specs.BitRows.{members_below}
 use Rattle.edge_state.proofs.RowBits.{members_few, members_fewer, eqb_false}
 use Rattle.orientation_rules.specs.Weights.{OthersStay}

@@ -11,9 +11,9 @@ use Rattle.std.proofs.lemmas.Bool.{true≢false, cases_lt, cases_eq}
 use Rattle.packing_terms.specs.Packing.{PlainInstance, box_count, side}
 use Rattle.packing_terms.specs.Exclusions.{excludes}
 use Rattle.packing_terms.specs.Rules.{AreBoxesAmong}
-use Rattle.rule_terms.specs.declared.Direction.TheVariants.{Forwards, Backwards}
-use Rattle.rule_terms.specs.Runs.{Leads, IsRun, HasRun, AreRuns, IsOneWay, IsTransitive, IsHeaviestRun, HasNoHeavierRun}
-use Rattle.rule_terms.proofs.Runs.{run_more}
+use Rattle.packing_terms.specs.declared.Direction.TheVariants.{Forwards, Backwards}
+use Rattle.packing_terms.specs.Runs.{Leads, IsRun, HasRun, AreRuns, IsOneWay, IsTransitive, IsHeaviestRun, HasNoHeavierRun}
+use Rattle.packing_terms.proofs.Runs.{run_more}
 use Rattle.edge_state.specs.BitRows.{row_has}
 use Rattle.edge_state.specs.Edges.{PlainEdges}
 use Rattle.orientation_rules.specs.Weights.{HasOneWayChains, IsHeaviest, AreWeights, IsWeighedAt}

@@ -7,8 +7,8 @@ use Rattle.packing_terms.specs.declared.Rel.TheVariants.{Overlap, Before, After}
 use Rattle.packing_terms.specs.declared.Exclusion.{Exclusion}
 use Rattle.packing_terms.specs.Exclusions.{Exclusions, excludes}
 use Rattle.packing_terms.proofs.Sets.{excludes_symmetric}
-use Rattle.rule_terms.specs.declared.Direction.TheVariants.{Forwards, Backwards}
-use Rattle.rule_terms.specs.Runs.{Leads, HasNoHeavierRun, IsOneWay}
+use Rattle.packing_terms.specs.declared.Direction.TheVariants.{Forwards, Backwards}
+use Rattle.packing_terms.specs.Runs.{Leads, HasNoHeavierRun, IsOneWay}
 use Rattle.edge_state.specs.Edges.{is_other_box}
 use Rattle.edge_state.proofs.Kept.{row_open, row_shut}
 use Rattle.orientation_rules.specs.Weights.{OthersStay}

@@ -7,9 +7,9 @@ use Rattle.packing_terms.specs.Relations.{mirror}
 use Rattle.packing_terms.specs.Exclusions.{excludes, is_of, exclusion_at}
 use Rattle.packing_terms.specs.Closure.{IsSubset}
 use Rattle.packing_terms.proofs.Sets.{of_own, mirror_twice, excludes_symmetric}
-use Rattle.rule_terms.specs.Steps.{with_exclusion}
-use Rattle.rule_terms.specs.Applied.{narrowed_by, narrowed}
-use Rattle.rule_terms.proofs.Applied.{with_cases, with_keeps, with_own}
+use Rattle.packing_terms.specs.Steps.{with_exclusion}
+use Rattle.packing_terms.specs.Applied.{narrowed_by, narrowed}
+use Rattle.packing_terms.proofs.Applied.{with_cases, with_keeps, with_own}
 use Rattle.orientation_rules.specs.Kept.{IsTakenOut, taken, mirror_taken}
 
 module _ (i u v : ℕ) (keep : Rel → Bool) where

@@ -5,8 +5,8 @@ use Rattle.packing_terms.specs.Packing.{PlainInstance, box_count, side, containe
 use Rattle.packing_terms.specs.Exclusions.{excludes}
 use Rattle.edge_state.specs.BitRows.{row_has}
 use Rattle.edge_state.specs.Edges.{PlainEdges}
-use Rattle.rule_terms.specs.declared.Direction.TheVariants.{Forwards, Backwards}
-use Rattle.rule_terms.specs.Runs.{AreRuns, HasNoHeavierRun, Leads}
+use Rattle.packing_terms.specs.declared.Direction.TheVariants.{Forwards, Backwards}
+use Rattle.packing_terms.specs.Runs.{AreRuns, HasNoHeavierRun, Leads}
 use Rattle.orientation_rules.specs.Weights.{IsHeaviest}
 
 -- the row of v has x

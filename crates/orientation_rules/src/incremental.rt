@@ -4,8 +4,8 @@ ghost use Rattle.std.specs.Prelude.{◌≡◌, ◌==◌, ◌<◌, ◌≤◌, ◌
 ghost use Rattle.packing_terms.specs.Packing.{box_count};
 ghost use Rattle.packing_terms.specs.Exclusions.{excludes};
 ghost use Rattle.edge_state.specs.BitRows.{IsRowWidth, row_has, HoldsBoxes};
-ghost use Rattle.rule_terms.specs.declared.Direction.TheVariants.{Forwards, Backwards};
-ghost use Rattle.rule_terms.specs.Runs.{Leads};
+ghost use Rattle.packing_terms.specs.declared.Direction.TheVariants.{Forwards, Backwards};
+ghost use Rattle.packing_terms.specs.Runs.{Leads};
 ghost use Rattle.orientation_rules.specs.Weights.{HasOneWayChains, AreWeights, IsRaised, IsWeighedAt, IsHeaviest};
 ghost use Rattle.orientation_rules.specs.CachedChainWeights.{GoesOn};
 
@@ -13,7 +13,7 @@ use crate::raise::{raise_along, raise_by};
 use crate::successors::successor_row;
 use box_instances::Instance;
 use edge_state::{BitRow, EdgeState};
-use rule_terms::Direction;
+use packing_terms::Direction;
 
 // The row with one number more, where it is wanted.
 #[inline]

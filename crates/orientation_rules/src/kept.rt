@@ -4,8 +4,8 @@ ghost use Rattle.packing_terms.specs.Packing.{box_count};
 ghost use Rattle.packing_terms.specs.Limits.{IsBoxCount};
 ghost use Rattle.packing_terms.specs.Exclusions.{excludes};
 ghost use Rattle.edge_state.specs.BitRows.{IsRowWidth, row_has, HoldsBoxes};
-ghost use Rattle.rule_terms.specs.declared.Direction.TheVariants.{Forwards, Backwards};
-ghost use Rattle.rule_terms.specs.Runs.{Leads};
+ghost use Rattle.packing_terms.specs.declared.Direction.TheVariants.{Forwards, Backwards};
+ghost use Rattle.packing_terms.specs.Runs.{Leads};
 ghost use Rattle.orientation_rules.specs.Weights.{HasOneWayChains, IsHeaviest};
 ghost use Rattle.orientation_rules.specs.CachedChainWeights.{GoesOn, StillHolds, StillHold, AreHeaviestWeights};
 
@@ -14,7 +14,7 @@ use crate::refills::{clear_rows, drop_members, empty_rows, refill, refill_rows, 
 use crate::successors::successor_row;
 use box_instances::{Instance, NoMemory};
 use edge_state::{BitRow, EdgeState};
-use rule_terms::Direction;
+use packing_terms::Direction;
 use std::alloc::Global;
 use std::marker::Model;
 

@@ -3,9 +3,9 @@ ghost use Rattle.std.specs.Prelude.{◌≡◌, ◌+◌, ◌<◌, ◌≤◌, ◌&
 ghost use Rattle.packing_terms.specs.Packing.{dims, box_count, container_side};
 ghost use Rattle.packing_terms.specs.Exclusions.{excludes, IsSurelyBefore};
 ghost use Rattle.edge_state.specs.BitRows.{IsRowWidth, row_has, HoldsBoxes};
-ghost use Rattle.rule_terms.specs.declared.Direction.TheVariants.{Forwards, Backwards};
-ghost use Rattle.rule_terms.specs.Places.{HasNoEmptyMask};
-ghost use Rattle.rule_terms.specs.Runs.{IsTransitive, AreHeaviestHeads, AreHeaviestTails};
+ghost use Rattle.packing_terms.specs.declared.Direction.TheVariants.{Forwards, Backwards};
+ghost use Rattle.packing_terms.specs.Places.{HasNoEmptyMask};
+ghost use Rattle.packing_terms.specs.Runs.{IsTransitive, AreHeaviestHeads, AreHeaviestTails};
 ghost use Rattle.orientation_rules.specs.Weights.{HasOneWayChains};
 ghost use Rattle.orientation_rules.specs.CachedChainWeights.{AreHeaviestWeights};
 

@@ -3,13 +3,13 @@ ghost use Rattle.std.specs.Prelude.{◌≡◌, ◌<◌, ◌≤◌, ℕ, true, fa
 ghost use Rattle.packing_terms.specs.Packing.{dims, box_count, side};
 ghost use Rattle.packing_terms.specs.Exclusions.{excludes, IsEdgeAmong};
 ghost use Rattle.edge_state.specs.BitRows.{row_has, HoldsBoxes};
-ghost use Rattle.rule_terms.specs.Runs.{Leads};
+ghost use Rattle.packing_terms.specs.Runs.{Leads};
 ghost use Rattle.orientation_rules.specs.Weights.{HasOneWayChains, AreWeights, IsRaised, IsWeighedAt, OthersStay};
 
 use crate::successors::successor_row;
 use box_instances::Instance;
 use edge_state::{BitRow, EdgeState};
-use rule_terms::Direction;
+use packing_terms::Direction;
 
 // Raises the weight of v, whose own side is given, to that of a chain which goes on to x, where
 // that is more.

@@ -10,8 +10,8 @@ use Rattle.packing_terms.specs.Tokens.PlainToken.{Assign, SetRefuted}
 use Rattle.packing_terms.specs.OuterRefutation.{has_box, placements}
 use Rattle.packing_terms.specs.OuterPaths.{bins_with, On, Inside}
 use Rattle.packing_terms.proofs.WithBoxes.{placements_count}
-use Rattle.check_terms.specs.declared.answers.RefuseCode.TheVariants.{Range, Choice, «Set»}
-use Rattle.check_terms.specs.Judging.{unless, names_box}
+use Rattle.verdict_terms.specs.declared.check_answers.RefuseCode.TheVariants.{Range, Choice, «Set»}
+use Rattle.verdict_terms.specs.Judging.{unless, names_box}
 use Rattle.outer_check.specs.declared.path.Frame.{Frame}
 use Rattle.outer_check.specs.declared.goal.Goal.TheVariants.{Bins}
 use Rattle.outer_check.specs.declared.step.Step.TheVariants.{Refuse, Close, Enter, Begin}

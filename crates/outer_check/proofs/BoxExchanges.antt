@@ -3,10 +3,10 @@ use Rattle.std.proofs.Common.{◌≡◌, ℕ, pred, ◌-◌, ◌<◌, nat_le, sy
 use Rattle.std.proofs.lemmas.Bool.{and_parts, leb-true}
 use Rattle.packing_terms.specs.Packing.{PlainInstance, box_count}
 use Rattle.packing_terms.specs.OuterRefutation.{has_box}
-use Rattle.check_terms.specs.declared.answers.RefuseCode.TheVariants.{Range, Choice}
-use Rattle.check_terms.specs.Judging.{unless, names_box}
-use Rattle.bounded_terms.specs.Exchanges.{comes_before}
-use Rattle.bounded_terms.specs.BoundedJudging.{exchange_refusal}
+use Rattle.verdict_terms.specs.declared.check_answers.RefuseCode.TheVariants.{Range, Choice}
+use Rattle.verdict_terms.specs.Judging.{unless, names_box}
+use Rattle.verdict_terms.specs.Exchanges.{comes_before}
+use Rattle.verdict_terms.specs.BoundedJudging.{exchange_refusal}
 use Rattle.outer_check.specs.declared.goal.Goal.TheVariants.{Value as OfValue}
 use Rattle.outer_check.specs.Frames.{PlainPath, ArePath, AreSplits, is_put}
 use Rattle.outer_check.specs.Outers.{AreOf}

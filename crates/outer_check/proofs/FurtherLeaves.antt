@@ -8,14 +8,14 @@ use Rattle.packing_terms.specs.Tokens.PlainToken.{ValueShort}
 use Rattle.packing_terms.specs.OuterRefutation.{Bins as UsedBins, Choice as BoxChoice, no_choice}
 use Rattle.packing_terms.specs.OuterFeeding.{Outer}
 use Rattle.packing_terms.specs.OuterPaths.{At, Inside, OuterView, Whole, On, open_nodes, bins_with, choices_with}
-use Rattle.check_terms.specs.declared.answers.RefuseCode.{RefuseCode}
-use Rattle.check_terms.specs.declared.answers.RefuseCode.TheVariants.{Kind, After}
-use Rattle.bounded_terms.specs.BoundedRefutation.{BoundedToken, Plain, PricedOut, Exchange}
-use Rattle.bounded_terms.specs.BoundedFeeding.{bounded_children}
-use Rattle.bounded_terms.specs.BoundedPaths.{stands_for, bounded_view_after}
-use Rattle.bounded_terms.specs.BoundedJudging.{bounded_refusal, bounded_after}
-use Rattle.bounded_terms.proofs.BoundedViews.{bounded_view}
-use Rattle.bounded_terms.proofs.BoundedJudged.{bounded_exact}
+use Rattle.verdict_terms.specs.declared.check_answers.RefuseCode.{RefuseCode}
+use Rattle.verdict_terms.specs.declared.check_answers.RefuseCode.TheVariants.{Kind, After}
+use Rattle.verdict_terms.specs.BoundedRefutation.{BoundedToken, Plain, PricedOut, Exchange}
+use Rattle.verdict_terms.specs.BoundedFeeding.{bounded_children}
+use Rattle.verdict_terms.specs.BoundedPaths.{stands_for, bounded_view_after}
+use Rattle.verdict_terms.specs.BoundedJudging.{bounded_refusal, bounded_after}
+use Rattle.verdict_terms.proofs.BoundedViews.{bounded_view}
+use Rattle.verdict_terms.proofs.BoundedJudged.{bounded_exact}
 use Rattle.refutation_check.specs.Refuters.{PlainRefuter}
 use Rattle.outer_check.specs.declared.path.Frame.{Frame}
 use Rattle.outer_check.specs.declared.goal.Goal.{Goal}

@@ -14,13 +14,13 @@ use Rattle.packing_terms.specs.Feeding.{children}
 use Rattle.packing_terms.specs.OuterRefutation.{no_choice}
 use Rattle.packing_terms.specs.OuterPaths.{On, Inside, OuterStep, go_on, view_after, bins_with, bin_step, choices_with}
 use Rattle.packing_terms.specs.OuterPaths.{choice_step}
-use Rattle.check_terms.specs.declared.answers.RefuseCode.{RefuseCode}
-use Rattle.check_terms.specs.declared.answers.FeedVerdict.{FeedVerdict}
-use Rattle.check_terms.specs.declared.answers.FeedVerdict.TheVariants.{More, Done, Refused}
-use Rattle.check_terms.specs.Judging.{refusal}
-use Rattle.check_terms.specs.OuterJudging.{bin_refusal, value_refusal}
-use Rattle.check_terms.specs.Checking.{Checked, answered as inner_answered, answered_by as inner_answered_by}
-use Rattle.check_terms.specs.Checking.{checked_by, kept_or, left_by, inner_after}
+use Rattle.verdict_terms.specs.declared.check_answers.RefuseCode.{RefuseCode}
+use Rattle.verdict_terms.specs.declared.check_answers.FeedVerdict.{FeedVerdict}
+use Rattle.verdict_terms.specs.declared.check_answers.FeedVerdict.TheVariants.{More, Done, Refused}
+use Rattle.verdict_terms.specs.Judging.{refusal}
+use Rattle.verdict_terms.specs.OuterJudging.{bin_refusal, value_refusal}
+use Rattle.verdict_terms.specs.Checking.{Checked, answered as inner_answered, answered_by as inner_answered_by}
+use Rattle.verdict_terms.specs.Checking.{checked_by, kept_or, left_by, inner_after}
 use Rattle.refutation_check.specs.Refuters.{PlainRefuter, fed as inner_fed}
 use Rattle.outer_check.specs.declared.path.Frame.{Frame}
 use Rattle.outer_check.specs.declared.goal.Goal.{Goal}

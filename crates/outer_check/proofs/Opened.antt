@@ -9,10 +9,10 @@ use Rattle.packing_terms.specs.OuterFeeding.{OpenNode, Outer, Inner, bin_childre
 use Rattle.packing_terms.specs.OuterPaths.{OuterView, Whole, On, At, Inside, open_nodes, view_after, bins_with}
 use Rattle.packing_terms.specs.OuterPaths.{bin_step, choices_with, choice_step}
 use Rattle.packing_terms.proofs.OuterViews.{bins_view, value_view}
-use Rattle.check_terms.specs.declared.answers.RefuseCode.{RefuseCode}
-use Rattle.check_terms.specs.OuterJudging.{bin_refusal, value_refusal}
-use Rattle.check_terms.specs.Checking.{bins_after, value_after, left_by}
-use Rattle.check_terms.proofs.Judged.{bins_exact, value_exact}
+use Rattle.verdict_terms.specs.declared.check_answers.RefuseCode.{RefuseCode}
+use Rattle.verdict_terms.specs.OuterJudging.{bin_refusal, value_refusal}
+use Rattle.verdict_terms.specs.Checking.{bins_after, value_after, left_by}
+use Rattle.verdict_terms.proofs.Judged.{bins_exact, value_exact}
 use Rattle.outer_check.specs.Outers.{judged_at, left_open, is_whole_view}
 
 -- the first node is judged; where it isn't refused, its children and the rest are the open nodes behind the token

@@ -15,12 +15,12 @@ use Rattle.packing_terms.specs.Scales.{image_product, whole_product}
 use Rattle.packing_terms.specs.OuterRefutation.{undecided}
 use Rattle.packing_terms.proofs.Members.{all_at, in_range}
 use Rattle.packing_terms.proofs.Boxes.{found}
-use Rattle.check_terms.specs.declared.answers.RefuseCode.{RefuseCode}
-use Rattle.check_terms.specs.declared.answers.RefuseCode.TheVariants.{Kind, Range, Excess}
-use Rattle.check_terms.specs.Judging.{unless, are_legal}
-use Rattle.bounded_terms.specs.Shares.{whole_share, share, fits_alone, supply, demand}
-use Rattle.bounded_terms.specs.BoundedJudging.{price_refusal}
-use Rattle.bounded_terms.proofs.ShareSteps.{two_steps}
+use Rattle.verdict_terms.specs.declared.check_answers.RefuseCode.{RefuseCode}
+use Rattle.verdict_terms.specs.declared.check_answers.RefuseCode.TheVariants.{Kind, Range, Excess}
+use Rattle.verdict_terms.specs.Judging.{unless, are_legal}
+use Rattle.verdict_terms.specs.Shares.{whole_share, share, fits_alone, supply, demand}
+use Rattle.verdict_terms.specs.BoundedJudging.{price_refusal}
+use Rattle.verdict_terms.proofs.ShareSteps.{two_steps}
 use Rattle.outer_check.specs.declared.path.Frame.{Frame}
 use Rattle.outer_check.specs.declared.goal.Goal.TheVariants.{Value as OfValue}
 use Rattle.outer_check.specs.Frames.{PlainPath, ArePath, AreSplits, is_put, boxes_put, open_boxes}

@@ -11,8 +11,8 @@ use Rattle.packing_terms.specs.Goals.{worth}
 use Rattle.packing_terms.specs.Tokens.PlainToken.{Choose, SetRefuted, ValueShort}
 use Rattle.packing_terms.specs.OuterRefutation.{no_choice, has_box, undecided}
 use Rattle.packing_terms.specs.OuterPaths.{choices_with, On, Inside}
-use Rattle.check_terms.specs.declared.answers.RefuseCode.TheVariants.{Choice, Value, «Set»}
-use Rattle.check_terms.specs.Judging.{unless, names_box}
+use Rattle.verdict_terms.specs.declared.check_answers.RefuseCode.TheVariants.{Choice, Value, «Set»}
+use Rattle.verdict_terms.specs.Judging.{unless, names_box}
 use Rattle.outer_check.specs.declared.path.Frame.{Frame}
 use Rattle.outer_check.specs.declared.goal.Goal.TheVariants.{Value as OfValue}
 use Rattle.outer_check.specs.declared.step.Step.TheVariants.{Refuse, Close, Enter, Begin}

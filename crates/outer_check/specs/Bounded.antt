@@ -5,11 +5,11 @@ use Rattle.packing_terms.specs.Packing.{PlainInstance}
 use Rattle.packing_terms.specs.OuterRefutation.{Bins as UsedBins, Choice as BoxChoice}
 use Rattle.packing_terms.specs.OuterFeeding.{Outer}
 use Rattle.packing_terms.specs.OuterPaths.{At, Inside, OuterView, Whole, On}
-use Rattle.check_terms.specs.declared.answers.RefuseCode.{RefuseCode}
-use Rattle.check_terms.specs.declared.answers.RefuseCode.TheVariants.{Kind, After}
-use Rattle.bounded_terms.specs.BoundedRefutation.{BoundedToken, Plain, PricedOut, Exchange}
-use Rattle.bounded_terms.specs.BoundedPaths.{stands_for}
-use Rattle.bounded_terms.specs.BoundedJudging.{bounded_refusal}
+use Rattle.verdict_terms.specs.declared.check_answers.RefuseCode.{RefuseCode}
+use Rattle.verdict_terms.specs.declared.check_answers.RefuseCode.TheVariants.{Kind, After}
+use Rattle.verdict_terms.specs.BoundedRefutation.{BoundedToken, Plain, PricedOut, Exchange}
+use Rattle.verdict_terms.specs.BoundedPaths.{stands_for}
+use Rattle.verdict_terms.specs.BoundedJudging.{bounded_refusal}
 use Rattle.refutation_check.specs.Refuters.{PlainRefuter}
 use Rattle.outer_check.specs.declared.goal.Goal.{Goal}
 use Rattle.outer_check.specs.declared.goal.Goal.TheVariants.{Value}

@@ -12,11 +12,11 @@ use Rattle.packing_terms.specs.OuterRefutation.{Bins as UsedBins, Choice as BoxC
 use Rattle.packing_terms.specs.OuterFeeding.{OpenNode, Outer, Inner}
 use Rattle.packing_terms.specs.OuterPaths.{PathNode, At, Inside, OuterView, Whole, On, view_after, bins_with, bin_step}
 use Rattle.packing_terms.specs.OuterPaths.{choices_with, choice_step}
-use Rattle.check_terms.specs.declared.answers.RefuseCode.{RefuseCode}
-use Rattle.check_terms.specs.declared.answers.RefuseCode.TheVariants.{After}
-use Rattle.check_terms.specs.declared.answers.FeedVerdict.{FeedVerdict}
-use Rattle.check_terms.specs.declared.answers.FeedVerdict.TheVariants.{More, Done, Refused}
-use Rattle.check_terms.specs.OuterJudging.{bin_refusal, value_refusal}
+use Rattle.verdict_terms.specs.declared.check_answers.RefuseCode.{RefuseCode}
+use Rattle.verdict_terms.specs.declared.check_answers.RefuseCode.TheVariants.{After}
+use Rattle.verdict_terms.specs.declared.check_answers.FeedVerdict.{FeedVerdict}
+use Rattle.verdict_terms.specs.declared.check_answers.FeedVerdict.TheVariants.{More, Done, Refused}
+use Rattle.verdict_terms.specs.OuterJudging.{bin_refusal, value_refusal}
 use Rattle.outer_check.specs.declared.path.Frame.{Frame}
 use Rattle.outer_check.specs.declared.goal.Goal.{Goal}
 use Rattle.outer_check.specs.declared.goal.Goal.TheVariants.{Bins, Value}

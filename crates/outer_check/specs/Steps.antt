@@ -6,8 +6,8 @@ use Rattle.packing_terms.specs.OuterRefutation.{no_choice}
 use Rattle.packing_terms.specs.OuterFeeding.{Outer}
 use Rattle.packing_terms.specs.OuterPaths.{At, Inside, OuterView, Whole, On, OuterStep, stepped, bins_with, bin_step}
 use Rattle.packing_terms.specs.OuterPaths.{choices_with, choice_step}
-use Rattle.check_terms.specs.declared.answers.RefuseCode.{RefuseCode}
-use Rattle.check_terms.specs.OuterJudging.{bin_refusal, value_refusal}
+use Rattle.verdict_terms.specs.declared.check_answers.RefuseCode.{RefuseCode}
+use Rattle.verdict_terms.specs.OuterJudging.{bin_refusal, value_refusal}
 use Rattle.outer_check.specs.declared.path.Frame.{Frame}
 use Rattle.outer_check.specs.declared.goal.Goal.{Goal}
 use Rattle.outer_check.specs.declared.goal.Goal.TheVariants.{Bins, Value}

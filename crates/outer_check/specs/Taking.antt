@@ -2,7 +2,7 @@
 use Rattle.std.specs.Prelude.{◌≡◌, Some, None, Result, Ok, Err}
 use Rattle.packing_terms.specs.Packing.{PlainInstance}
 use Rattle.packing_terms.specs.Tokens.{PlainToken}
-use Rattle.check_terms.specs.declared.answers.RefuseCode.{RefuseCode}
+use Rattle.verdict_terms.specs.declared.check_answers.RefuseCode.{RefuseCode}
 use Rattle.refutation_check.specs.Refuters.{PlainRefuter}
 use Rattle.outer_check.specs.declared.goal.Goal.{Goal}
 use Rattle.outer_check.specs.declared.point.Point.{Point}

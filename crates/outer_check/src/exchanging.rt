@@ -4,8 +4,8 @@ ghost use Rattle.std.specs.Prelude.{◌≡◌, ◌<◌};
 ghost use Rattle.packing_terms.specs.Packing.{box_count};
 ghost use Rattle.packing_terms.specs.OuterRefutation.{no_choice};
 ghost use Rattle.packing_terms.specs.OuterPaths.{choices_with};
-ghost use Rattle.bounded_terms.specs.Exchanges.{is_no_longer, replaces, comes_before};
-ghost use Rattle.bounded_terms.specs.BoundedJudging.{exchange_refusal};
+ghost use Rattle.verdict_terms.specs.Exchanges.{is_no_longer, replaces, comes_before};
+ghost use Rattle.verdict_terms.specs.BoundedJudging.{exchange_refusal};
 ghost use Rattle.outer_check.specs.declared.goal.Goal.TheVariants.{Value as PlainValue};
 ghost use Rattle.outer_check.specs.Nodes.{node_below};
 ghost use Rattle.outer_check.specs.Outers.{AreOf};
@@ -13,7 +13,7 @@ ghost use Rattle.outer_check.specs.Outers.{AreOf};
 use crate::path::Path;
 use crate::step::names_box;
 use box_instances::Instance;
-use check_terms::RefuseCode;
+use verdict_terms::RefuseCode;
 
 // Whether no side of box `u` is longer than that of box `v`.
 fn is_no_longer(instance: &Instance, u: u32, v: u32) -> bool

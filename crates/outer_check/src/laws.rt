@@ -4,11 +4,11 @@ ghost use Rattle.packing_terms.specs.Packing.{PlainInstance};
 ghost use Rattle.packing_terms.specs.Tokens.{PlainToken};
 ghost use Rattle.packing_terms.specs.OuterRefutation.{Bins as UsedBins, Choice as BoxChoice};
 ghost use Rattle.packing_terms.specs.OuterPaths.{OuterView, open_nodes, view_after, bins_with, bin_step, choices_with, choice_step};
-ghost use Rattle.check_terms.specs.OuterJudging.{bin_refusal, value_refusal};
-ghost use Rattle.check_terms.specs.Checking.{bins_after, value_after};
-ghost use Rattle.bounded_terms.specs.BoundedRefutation.{BoundedToken};
-ghost use Rattle.bounded_terms.specs.BoundedPaths.{bounded_view_after};
-ghost use Rattle.bounded_terms.specs.BoundedJudging.{bounded_after};
+ghost use Rattle.verdict_terms.specs.OuterJudging.{bin_refusal, value_refusal};
+ghost use Rattle.verdict_terms.specs.Checking.{bins_after, value_after};
+ghost use Rattle.verdict_terms.specs.BoundedRefutation.{BoundedToken};
+ghost use Rattle.verdict_terms.specs.BoundedPaths.{bounded_view_after};
+ghost use Rattle.verdict_terms.specs.BoundedJudging.{bounded_after};
 ghost use Rattle.outer_check.specs.Outers.{ForValue, judged_at, left_open, is_whole_view};
 ghost use Rattle.outer_check.specs.Bounded.{bounded_tree_refusal};
 

@@ -4,7 +4,7 @@ ghost use Rattle.packing_terms.specs.Packing.{box_count};
 ghost use Rattle.packing_terms.specs.OuterRefutation.{no_choice};
 ghost use Rattle.packing_terms.specs.OuterFeeding.{Outer};
 ghost use Rattle.packing_terms.specs.OuterPaths.{choices_with};
-ghost use Rattle.bounded_terms.specs.BoundedJudging.{bounded_refusal};
+ghost use Rattle.verdict_terms.specs.BoundedJudging.{bounded_refusal};
 ghost use Rattle.bounded_tokens.specs.Plain.{plain_bounded};
 ghost use Rattle.refutation_check.specs.Refuters.{PlainRefuter};
 ghost use Rattle.outer_check.specs.declared.goal.Goal.TheVariants.{Value as PlainValue};
@@ -20,7 +20,7 @@ use crate::pricing::price_refusal;
 use crate::taking::leave;
 use bounded_tokens::BoundedToken;
 use box_instances::Instance;
-use check_terms::RefuseCode;
+use verdict_terms::RefuseCode;
 
 // The value whose outer node the tree stands at, or why it takes no further leaf.
 fn value_at(goal: Goal, point: Point) -> Result<u64, RefuseCode>

@@ -14,7 +14,7 @@ mod refuter;
 mod step;
 mod taking;
 
-pub use check_terms::{FeedVerdict, RefuseCode};
 pub use goal::Goal;
 pub use laws::{bounded_steps_leave_the_open_nodes, outer_steps_leave_the_open_nodes};
 pub use refuter::OuterRefuter;
+pub use verdict_terms::{FeedVerdict, RefuseCode};

@@ -6,8 +6,8 @@ ghost use Rattle.packing_terms.specs.Packing.{box_count};
 ghost use Rattle.packing_terms.specs.OuterRefutation.{no_choice};
 ghost use Rattle.packing_terms.specs.OuterPaths.{choices_with};
 ghost use Rattle.packing_terms.specs.Scales.{IsTuple};
-ghost use Rattle.bounded_terms.specs.Shares.{fits_alone, share, shares, gain, supply, demand};
-ghost use Rattle.bounded_terms.specs.BoundedJudging.{price_refusal};
+ghost use Rattle.verdict_terms.specs.Shares.{fits_alone, share, shares, gain, supply, demand};
+ghost use Rattle.verdict_terms.specs.BoundedJudging.{price_refusal};
 ghost use Rattle.outer_check.specs.declared.goal.Goal.TheVariants.{Value as PlainValue};
 ghost use Rattle.outer_check.specs.Frames.{boxes_put, open_boxes};
 ghost use Rattle.outer_check.specs.Nodes.{node_below};
@@ -17,9 +17,9 @@ use crate::path::Path;
 use crate::products::{image_product, whole_product};
 use crate::step::taken_worth;
 use box_instances::Instance;
-use check_terms::RefuseCode;
 use conservative_scales::ScaleFn;
 use refutation_check::are_legal;
+use verdict_terms::RefuseCode;
 
 // Whether no side of the box is longer than the container's.
 fn fits_alone(instance: &Instance, v: u32) -> bool

@@ -13,11 +13,11 @@ use crate::point::Point;
 use crate::taking::take;
 use bounded_tokens::BoundedToken;
 use box_instances::{Instance, NoMemory};
-use check_terms::{FeedVerdict, RefuseCode};
 use proof_tree::Token;
 use refutation_check::Refuter;
 use std::alloc::Global;
 use std::marker::Model;
+use verdict_terms::{FeedVerdict, RefuseCode};
 
 /// Checks an outer refutation token by token: that an instance doesn't fit in a number of bins, or
 /// doesn't reach a value. It takes all its memory when it is made.

@@ -5,7 +5,7 @@ ghost use Rattle.packing_terms.specs.Goals.{worth};
 ghost use Rattle.packing_terms.specs.Limits.{max_boxes};
 ghost use Rattle.packing_terms.specs.Tokens.PlainToken.{Assign as PlainAssign, Choose as PlainChoose, SetRefuted as PlainSetRefuted, ValueShort as PlainValueShort, GlobalScales as PlainGlobalScales};
 ghost use Rattle.proof_tree.specs.Plain.{plain_token};
-ghost use Rattle.check_terms.specs.Judging.{names_box};
+ghost use Rattle.verdict_terms.specs.Judging.{names_box};
 ghost use Rattle.outer_check.specs.declared.goal.Goal.TheVariants.{Bins as PlainBins, Value as PlainValue};
 ghost use Rattle.outer_check.specs.Frames.{boxes_put, open_boxes};
 ghost use Rattle.outer_check.specs.Nodes.{bin_count};
@@ -14,10 +14,10 @@ ghost use Rattle.outer_check.specs.Steps.{IsTokenStep};
 
 use crate::path::Path;
 use box_instances::Instance;
-use check_terms::RefuseCode;
 use conservative_scales::ScaleFn;
 use proof_tree::Token;
 use refutation_check::judge_tuple;
+use verdict_terms::RefuseCode;
 
 /// What a token does: it is refused, closes the node, splits it, or begins the inner tree of the
 /// boxes that the splits put into their child of this number.

@@ -1,7 +1,7 @@
 //! What a token makes of the parts of an outer refuter.
 ghost use Rattle.std.specs.Prelude.{◌≡◌, ◌≤◌, length, [], vec_capacity};
 ghost use Rattle.packing_terms.specs.Packing.{PlainInstance, box_count};
-ghost use Rattle.check_terms.specs.Checking.{starting};
+ghost use Rattle.verdict_terms.specs.Checking.{starting};
 ghost use Rattle.proof_tree.specs.Plain.{plain_token};
 ghost use Rattle.outer_check.specs.declared.goal.Goal.{Goal as PlainGoal};
 ghost use Rattle.outer_check.specs.declared.point.Point.TheVariants.{AtNode, InSet};
@@ -15,9 +15,9 @@ use crate::path::Path;
 use crate::point::Point;
 use crate::step::{Step, step_for_bins, step_for_value};
 use box_instances::Instance;
-use check_terms::{FeedVerdict, RefuseCode};
 use proof_tree::Token;
 use refutation_check::Refuter;
+use verdict_terms::{FeedVerdict, RefuseCode};
 
 /// The current node is closed.
 pub(crate) fn leave(path: &mut Path, point: &mut Point)

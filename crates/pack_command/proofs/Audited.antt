@@ -3,7 +3,7 @@
 use Rattle.std.proofs.Common.{◌≡◌, ℕ, ◌⊎◌, inl, inr, refl, sym, ap, subst, ◌∙◌, List, length, arith, Option, Some}
 use Rattle.std.proofs.Common.{Result, Ok, Err, String, Global}
 use Rattle.packing_terms.specs.Packing.{PlainInstance}
-use Rattle.document_terms.specs.declared.claim.Claim.{Claim}
+use Rattle.text_terms.specs.declared.claim.Claim.{Claim}
 use Rattle.answer_terms.specs.declared.job.DocumentJob.{DocumentJob}
 use Rattle.text_terms.specs.declared.settings.Settings.{Settings}
 use Rattle.std.specs.Io.KnownBytes.{IsAtEnd}
@@ -14,17 +14,17 @@ use Rattle.verdict_terms.specs.Documents.{bounded_verdict_line}
 use Rattle.verdict_terms.specs.Form.{IsReducedDocument, IsBoundedDocument}
 use Rattle.verdict_terms.proofs.FormGiven.{documents_have_form}
 use Rattle.verdict_terms.proofs.True.{documents_are_true}
-use Rattle.explained_documents.specs.declared.kind.DocumentKind.{DocumentKind}
-use Rattle.explained_documents.specs.declared.kind.DocumentKind.TheVariants.{Explained as OfExplained, Front as OfFront}
-use Rattle.explained_documents.specs.declared.kind.DocumentKind.TheVariants.{Reduced as OfReduced, Bounded as OfBounded}
-use Rattle.explained_documents.specs.Kinds.{document_kind}
-use Rattle.explained_documents.specs.Documents.{ExplainedRefusal, explained_verdict, explained_line, explained_status}
-use Rattle.explained_documents.proofs.Shown.{documents_are_true as explained_are_true}
-use Rattle.explained_documents.proofs.FormTold.{documents_have_form as explained_have_form}
-use Rattle.front_verdict_terms.specs.Verdicts.{FrontRead, front_document_verdict, front_verdict_line}
-use Rattle.front_verdict_terms.specs.Verdicts.{front_verdict_status}
-use Rattle.front_verdict_terms.proofs.Verified.{verified_fronts_are_true}
-use Rattle.front_verdict_terms.proofs.FormTold.{fronts_have_form}
+use Rattle.verdict_terms.specs.declared.kind.DocumentKind.{DocumentKind}
+use Rattle.verdict_terms.specs.declared.kind.DocumentKind.TheVariants.{Explained as OfExplained, Front as OfFront}
+use Rattle.verdict_terms.specs.declared.kind.DocumentKind.TheVariants.{Reduced as OfReduced, Bounded as OfBounded}
+use Rattle.verdict_terms.specs.Kinds.{document_kind}
+use Rattle.verdict_terms.specs.ExplainedDocumentDocuments.{ExplainedRefusal, explained_verdict, explained_line, explained_status}
+use Rattle.verdict_terms.proofs.Shown.{documents_are_true as explained_are_true}
+use Rattle.verdict_terms.proofs.ExplainedDocumentFormTold.{documents_have_form as explained_have_form}
+use Rattle.verdict_terms.specs.FrontDocumentVerdicts.{FrontRead, front_document_verdict, front_verdict_line}
+use Rattle.verdict_terms.specs.FrontDocumentVerdicts.{front_verdict_status}
+use Rattle.verdict_terms.proofs.Verified.{verified_fronts_are_true}
+use Rattle.verdict_terms.proofs.FrontDocumentFormTold.{fronts_have_form}
 use Rattle.answer_streams.specs.declared.verdict.Verdict.{Verdict}
 use Rattle.answer_streams.specs.declared.audited.AuditedVerdict.{AuditedVerdict}
 use Rattle.answer_streams.specs.declared.audited.AuditedVerdict.TheVariants.{Reduced as ToldReduced, Bounded as ToldBounded}

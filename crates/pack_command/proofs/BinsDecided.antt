@@ -8,8 +8,8 @@ use Rattle.tree_terms.specs.Levels.{PlainReached, bin_run}
 use Rattle.tree_terms.proofs.FirstFound.{first_large_is}
 use Rattle.tree_terms.proofs.SpentRuns.{bins_spent}
 use Rattle.answer_terms.specs.declared.job.DocumentJob.TheVariants.{Solving as Solves}
-use Rattle.document_terms.specs.declared.claim.SolvingJob.TheVariants.{Bins}
-use Rattle.document_terms.specs.declared.claim.Claim.TheVariants.{LeastBins, BinsBetween, NoBins}
+use Rattle.text_terms.specs.declared.claim.SolvingJob.TheVariants.{Bins}
+use Rattle.text_terms.specs.declared.claim.Claim.TheVariants.{LeastBins, BinsBetween, NoBins}
 use Rattle.answer_terms.specs.Answers.{answer_text, status_of}
 use Rattle.answer_terms.specs.Answers.Answer.{Claimed}
 use Rattle.answer_terms.specs.Solved.{solved, bins_answer, reached_claim}

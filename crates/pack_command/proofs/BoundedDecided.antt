@@ -8,7 +8,7 @@ use Rattle.packing_terms.specs.Limits.{IsInstance}
 use Rattle.text_terms.specs.declared.settings.Settings.{Settings}
 use Rattle.answer_terms.specs.Answers.{claim_status}
 use Rattle.answer_streams.specs.Audited.{verdict_of_kind, BoundedVerdictOf}
-use Rattle.bounded_terms.specs.BoundedRefutation.{IsBoundedRefutation}
+use Rattle.verdict_terms.specs.BoundedRefutation.{IsBoundedRefutation}
 use Rattle.answer_terms.specs.BoundedAnswers.{BoundedAnswer, bounded_claim, bounded_text}
 use Rattle.answer_terms.proofs.BoundedOwn.{own_bounded_verified, bounded_answers_true, bounded_claims_told}
 use Rattle.pack_streams.specs.Moves.{Appended}

@@ -5,10 +5,10 @@ use Rattle.pack_streams.specs.Faults.{FaultCount, Stays}
 use Rattle.pack_streams.specs.Moves.{Consumed}
 use Rattle.pack_streams.proofs.Faults.{stays_on, fails_then}
 use Rattle.text_terms.specs.Feeding.{Lexer}
-use Rattle.document_terms.specs.declared.claim.SolvingJob.{SolvingJob}
+use Rattle.text_terms.specs.declared.claim.SolvingJob.{SolvingJob}
 use Rattle.verdict_terms.specs.declared.heading.Heading.TheVariants.{Bounded}
 use Rattle.verdict_terms.specs.Documents.{bounded_verdict}
-use Rattle.explained_documents.specs.declared.kind.DocumentKind.TheVariants.{Bounded as OfBounded}
+use Rattle.verdict_terms.specs.declared.kind.DocumentKind.TheVariants.{Bounded as OfBounded}
 use Rattle.document_lines.specs.Reading.{Begins}
 use Rattle.document_check.specs.declared.check.CheckEnd.{CheckEnd}
 use Rattle.document_check.specs.declared.check.CheckEnd.TheVariants.{Verified, Refused, TooLong as CheckTooLong}

@@ -5,7 +5,7 @@ use Rattle.packing_terms.specs.Packing.{PlainInstance}
 use Rattle.text_terms.specs.declared.fault.TextFault.{TextFault}
 use Rattle.text_terms.specs.declared.settings.Settings.{Settings}
 use Rattle.answer_terms.specs.declared.job.DocumentJob.{DocumentJob}
-use Rattle.document_terms.specs.declared.claim.Claim.{Claim}
+use Rattle.text_terms.specs.declared.claim.Claim.{Claim}
 use Rattle.verdict_terms.specs.Documents.{Refusal}
 use Rattle.pack_streams.specs.Faults.{FaultCount, Stays, FailedOnce}
 use Rattle.pack_command.specs.Answered.{IsAnswerStatus}

@@ -2,7 +2,7 @@
 use Rattle.std.proofs.Common.{◌≡◌, ℕ, ◌<◌, ◌≤◌, ◌+◌, ◌-◌, inl, inr, sym, ap, subst, ◌∙◌, List, ◌++◌, length, take}
 use Rattle.std.proofs.Common.{arith, Option, Some, None, Result, Ok, Err, String, Global}
 use Rattle.std.proofs.Math.Seq.{take-append-add}
-use Rattle.document_terms.specs.declared.claim.Claim.{Claim}
+use Rattle.text_terms.specs.declared.claim.Claim.{Claim}
 use Rattle.pack_streams.specs.Moves.{Consumed, Appended}
 use Rattle.answer_terms.specs.declared.job.DocumentJob.{DocumentJob}
 use Rattle.pack_words.specs.declared.job.JobWords.{JobWords}

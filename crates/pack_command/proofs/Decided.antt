@@ -7,13 +7,13 @@ use Rattle.packing_terms.specs.Packing.{PlainInstance}
 use Rattle.packing_terms.specs.Limits.{IsInstance, IsInternalInstance}
 use Rattle.packing_terms.proofs.Internal.{written_internal, internal_sides}
 use Rattle.packing_terms.proofs.Refuted.{none_fits}
-use Rattle.scale_terms.proofs.Excess.{excess_law}
+use Rattle.packing_terms.proofs.Excess.{excess_law}
 use Rattle.tree_terms.specs.Trees.{Verdict, Yes, No, Decided, Past, outcome, count_of}
 use Rattle.tree_terms.specs.ClassTree.{class_tree}
 use Rattle.tree_terms.specs.Search.{IsRightUnder}
 use Rattle.tree_terms.proofs.Decisions.{class_tree_right}
 use Rattle.answer_terms.specs.declared.job.DocumentJob.TheVariants.{Solving as Solves}
-use Rattle.document_terms.specs.declared.claim.SolvingJob.TheVariants.{Fit}
+use Rattle.text_terms.specs.declared.claim.SolvingJob.TheVariants.{Fit}
 use Rattle.answer_terms.specs.Answers.{answer_text, status_of}
 use Rattle.answer_terms.specs.Solved.{solved, fit_answer}
 use Rattle.pack_streams.specs.Moves.{Appended}

@@ -5,18 +5,18 @@ use Rattle.packing_terms.specs.Packing.{PlainInstance}
 use Rattle.packing_terms.specs.Tokens.{PlainToken}
 use Rattle.packing_terms.specs.Refutation.{Refutes}
 use Rattle.text_terms.specs.Lines.{text_lines}
-use Rattle.document_terms.specs.declared.claim.Claim.{Claim}
-use Rattle.document_terms.specs.declared.claim.Claim.TheVariants.{Fitting, NotFitting, LeastHeight, HeightBetween}
-use Rattle.document_terms.specs.declared.claim.Claim.TheVariants.{NoHeight, LeastBins, BinsBetween, NoBins}
-use Rattle.document_terms.specs.declared.claim.Claim.TheVariants.{GreatestValue, ValueBetween}
+use Rattle.text_terms.specs.declared.claim.Claim.{Claim}
+use Rattle.text_terms.specs.declared.claim.Claim.TheVariants.{Fitting, NotFitting, LeastHeight, HeightBetween}
+use Rattle.text_terms.specs.declared.claim.Claim.TheVariants.{NoHeight, LeastBins, BinsBetween, NoBins}
+use Rattle.text_terms.specs.declared.claim.Claim.TheVariants.{GreatestValue, ValueBetween}
 use Rattle.verdict_terms.specs.declared.heading.Heading.TheVariants.{Answer}
 use Rattle.verdict_terms.specs.declared.reason.Reason.{Reason}
 use Rattle.verdict_terms.specs.declared.reason.Reason.TheVariants.{NoClaim}
 use Rattle.verdict_terms.specs.Documents.{document_verdict, verdict_line}
 use Rattle.verdict_terms.proofs.FormGiven.{document_limits}
 use Rattle.verdict_terms.proofs.True.{documents_are_true}
-use Rattle.explained_terms.specs.Steps.{PlainStep, tokens_among}
-use Rattle.explained_terms.specs.Explaining.{Explains}
+use Rattle.verdict_terms.specs.Steps.{PlainStep, tokens_among}
+use Rattle.verdict_terms.specs.Explaining.{Explains}
 use Rattle.answer_terms.specs.Explained.{explained_text}
 use Rattle.answer_streams.specs.Audited.{ExplainedVerdictOf, verdict_of_kind, audit_verdict}
 use Rattle.answer_terms.proofs.OwnExplained.{own_explained}

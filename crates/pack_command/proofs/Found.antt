@@ -2,18 +2,18 @@
 use Rattle.std.proofs.Common.{ℕ, ◌≡◌, ◌-◌, ◌*◌, arith, sym, ap, subst, ◌∙◌, Bool, List, [], length, None, Option}
 use Rattle.std.proofs.Math.ListN.{length-set}
 use Rattle.packing_terms.specs.declared.Exclusion.{Exclusion}
-use Rattle.symmetry_terms.specs.Facts.{symmetry_facts}
+use Rattle.packing_terms.specs.Facts.{symmetry_facts}
 use Rattle.packing_terms.specs.Packing.{PlainInstance, dims, box_count}
 use Rattle.packing_terms.specs.Goals.{with_last_side}
 use Rattle.tree_terms.specs.Trees.{PlainOutcome, Decided, Past, Yes, No, outcome, under_budget}
 use Rattle.tree_terms.specs.ClassTree.{class_tree, first_too_large_box, first_too_wide}
 use Rattle.tree_terms.specs.Levels.{PlainReached, bin_run, value_run}
-use Rattle.reduced_levels.specs.Heights.{height_run_from}
+use Rattle.tree_terms.specs.Heights.{height_run_from}
 use Rattle.tree_terms.proofs.FirstFound.{first_large_is, none_large_is, first_too_wide_is, none_too_wide_is}
 use Rattle.answer_terms.specs.declared.job.DocumentJob.TheVariants.{Solving as Solves, Reduced as Reduces}
 use Rattle.answer_terms.specs.declared.job.ReducedJob.TheVariants.{Fit as FromFit, Strip as FromStrip}
-use Rattle.document_terms.specs.declared.claim.SolvingJob.TheVariants.{Fit as SolvesFit, Strip as SolvesStrip}
-use Rattle.document_terms.specs.declared.claim.SolvingJob.TheVariants.{Bins as SolvesBins, Knapsack as SolvesKnapsack}
+use Rattle.text_terms.specs.declared.claim.SolvingJob.TheVariants.{Fit as SolvesFit, Strip as SolvesStrip}
+use Rattle.text_terms.specs.declared.claim.SolvingJob.TheVariants.{Bins as SolvesBins, Knapsack as SolvesKnapsack}
 use Rattle.answer_terms.specs.Answers.{Answer, answer_text, status_of}
 use Rattle.answer_terms.specs.Reduced.{reduced_solved, reduced_text}
 use Rattle.answer_terms.specs.Solved.{solved, fit_answer, strip_answer, bins_answer, knapsack_answer}

@@ -9,7 +9,7 @@ use Rattle.packing_terms.proofs.Made.{made_within}
 use Rattle.tree_terms.proofs.Counts.{class_count}
 use Rattle.answer_terms.specs.declared.job.DocumentJob.{DocumentJob}
 use Rattle.answer_terms.specs.declared.job.DocumentJob.TheVariants.{Solving as Solves}
-use Rattle.document_terms.specs.declared.claim.SolvingJob.TheVariants.{Fit}
+use Rattle.text_terms.specs.declared.claim.SolvingJob.TheVariants.{Fit}
 use Rattle.answer_terms.specs.Solved.{JobAnswer, solved}
 use Rattle.pack_streams.specs.Moves.{Appended}
 use Rattle.pack_words.specs.declared.job.Job.TheVariants.{Check, Make}

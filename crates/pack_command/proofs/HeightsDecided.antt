@@ -8,7 +8,7 @@ use Rattle.packing_terms.specs.Goals.{with_last_side}
 use Rattle.packing_terms.specs.Limits.{IsInstance}
 use Rattle.packing_terms.specs.TooLarge.{IsFirstTooWide}
 use Rattle.text_terms.specs.declared.settings.Settings.{Settings}
-use Rattle.family_terms.specs.FamilyRefutation.{Free, RefutesFamilies}
+use Rattle.verdict_terms.specs.FamilyRefutation.{Free, RefutesFamilies}
 use Rattle.answer_terms.specs.Answers.{claim_status}
 use Rattle.answer_terms.specs.HeightAnswers.{BoundedHeights, BoundedStrip, Heights, NoneFits, AreBoundedHeights}
 use Rattle.answer_terms.specs.HeightAnswers.{IsBoundedStrip, strip_claim, strip_status, bounded_strip_text}

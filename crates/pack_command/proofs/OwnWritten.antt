@@ -4,11 +4,11 @@ use Rattle.std.proofs.Common.{String, Global}
 use Rattle.packing_terms.specs.Packing.{PlainInstance}
 use Rattle.packing_terms.specs.Limits.{IsInstance}
 use Rattle.text_terms.specs.Texts.{text_instance}
-use Rattle.document_terms.specs.declared.claim.SolvingJob.{SolvingJob}
-use Rattle.document_terms.specs.declared.claim.Claim.{Claim}
+use Rattle.text_terms.specs.declared.claim.SolvingJob.{SolvingJob}
+use Rattle.text_terms.specs.declared.claim.Claim.{Claim}
 use Rattle.verdict_terms.specs.Documents.{Refusal, reduced_verdict}
-use Rattle.explained_documents.specs.declared.kind.DocumentKind.TheVariants.{Reduced as ReducedKind}
-use Rattle.explained_documents.specs.Kinds.{document_kind}
+use Rattle.verdict_terms.specs.declared.kind.DocumentKind.TheVariants.{Reduced as ReducedKind}
+use Rattle.verdict_terms.specs.Kinds.{document_kind}
 use Rattle.answer_streams.specs.Audited.{ReducedVerdictOf, verdict_of_kind, audit_verdict}
 use Rattle.answer_terms.specs.declared.job.DocumentJob.{DocumentJob}
 use Rattle.answer_terms.specs.declared.job.DocumentJob.TheVariants.{Solving as Solves, Reduced as Reduces}

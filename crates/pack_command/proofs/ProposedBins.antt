@@ -10,7 +10,7 @@ use Rattle.packing_terms.specs.Tokens.PlainToken.{TooLarge}
 use Rattle.packing_terms.specs.TooLarge.{IsFirstTooLarge}
 use Rattle.tree_terms.specs.OuterSearch.{bins_in, places_in}
 use Rattle.text_terms.specs.declared.settings.Settings.{Settings}
-use Rattle.document_terms.specs.declared.claim.SolvingJob.TheVariants.{Bins as SolvesBins}
+use Rattle.text_terms.specs.declared.claim.SolvingJob.TheVariants.{Bins as SolvesBins}
 use Rattle.answer_terms.specs.Answers.{Answer, answer_text, status_of}
 use Rattle.answer_terms.specs.Shown.{ShowsNone}
 use Rattle.answer_streams.specs.declared.solution.Solution.TheVariants.{Bins}

@@ -8,7 +8,7 @@ use Rattle.packing_terms.specs.Limits.{IsInstance, IsInternalInstance}
 use Rattle.packing_terms.proofs.Internal.{written_internal}
 use Rattle.tree_terms.specs.OuterSearch.{AreTakenNumbers}
 use Rattle.text_terms.specs.declared.settings.Settings.{Settings}
-use Rattle.document_terms.specs.declared.claim.SolvingJob.TheVariants.{Knapsack as SolvesKnapsack}
+use Rattle.text_terms.specs.declared.claim.SolvingJob.TheVariants.{Knapsack as SolvesKnapsack}
 use Rattle.answer_terms.specs.Answers.{Answer, answer_text, status_of}
 use Rattle.answer_streams.specs.declared.solution.Solution.TheVariants.{Knapsack}
 use Rattle.answer_streams.specs.Solutions.{choice_found}

@@ -5,11 +5,11 @@ use Rattle.packing_terms.specs.Packing.{PlainInstance}
 use Rattle.packing_terms.specs.Limits.{IsInstance, IsInternalInstance}
 use Rattle.packing_terms.proofs.Internal.{written_internal, internal_sides, some_dimension}
 use Rattle.packing_terms.proofs.Refuted.{none_fits}
-use Rattle.scale_terms.proofs.Excess.{excess_law}
+use Rattle.packing_terms.proofs.Excess.{excess_law}
 use Rattle.tree_terms.specs.Trees.{PlainOutcome, Decided, Past, Yes, No}
 use Rattle.tree_terms.proofs.Counts.{class_count}
 use Rattle.text_terms.specs.declared.settings.Settings.{Settings}
-use Rattle.document_terms.specs.declared.claim.SolvingJob.TheVariants.{Fit as SolvesFit}
+use Rattle.text_terms.specs.declared.claim.SolvingJob.TheVariants.{Fit as SolvesFit}
 use Rattle.answer_terms.specs.Answers.{Answer, answer_text, status_of}
 use Rattle.answer_terms.specs.Solved.{fit_answer}
 use Rattle.class_search.specs.Right.{IsRight}

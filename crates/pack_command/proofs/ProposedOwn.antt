@@ -3,8 +3,8 @@ use Rattle.std.proofs.Common.{ℕ, ◌≡◌, ◌⊎◌, inl, inr, refl, List}
 use Rattle.std.specs.declared.option.Option.{Option}
 use Rattle.packing_terms.specs.Packing.{PlainInstance}
 use Rattle.packing_terms.specs.Limits.{IsInstance}
-use Rattle.document_terms.specs.Claims.{job_of}
-use Rattle.document_terms.specs.declared.claim.SolvingJob.{SolvingJob}
+use Rattle.text_terms.specs.Claims.{job_of}
+use Rattle.text_terms.specs.declared.claim.SolvingJob.{SolvingJob}
 use Rattle.answer_terms.specs.declared.job.DocumentJob.TheVariants.{Solving as Solves}
 use Rattle.answer_terms.specs.Answers.{Answer, answer_text, status_of}
 use Rattle.answer_terms.specs.Answers.Answer.{Undecided, Claimed}

@@ -11,7 +11,7 @@ use Rattle.packing_terms.specs.Tokens.{PlainToken}
 use Rattle.packing_terms.specs.Tokens.PlainToken.{TooLarge}
 use Rattle.packing_terms.specs.TooLarge.{IsFirstTooWide}
 use Rattle.text_terms.specs.declared.settings.Settings.{Settings}
-use Rattle.document_terms.specs.declared.claim.SolvingJob.TheVariants.{Strip as SolvesStrip}
+use Rattle.text_terms.specs.declared.claim.SolvingJob.TheVariants.{Strip as SolvesStrip}
 use Rattle.answer_terms.specs.Answers.{Answer, answer_text, status_of}
 use Rattle.answer_terms.specs.Shown.{ShowsNone}
 use Rattle.answer_streams.specs.declared.solution.Solution.TheVariants.{Strip}

@@ -6,10 +6,10 @@ use Rattle.packing_terms.specs.Packing.{PlainInstance}
 use Rattle.packing_terms.specs.Limits.{IsInstance, IsInternalInstance}
 use Rattle.packing_terms.proofs.Internal.{written_internal, internal_sides, some_dimension}
 use Rattle.packing_terms.proofs.Refuted.{refutes_sound}
-use Rattle.scale_terms.proofs.Excess.{excess_law}
-use Rattle.symmetry_terms.specs.Facts.{symmetry_facts}
-use Rattle.symmetry_terms.proofs.Members.{facts_at_edges}
-use Rattle.symmetry_terms.proofs.Respected.{some_packing_respects}
+use Rattle.packing_terms.proofs.Excess.{excess_law}
+use Rattle.packing_terms.specs.Facts.{symmetry_facts}
+use Rattle.packing_terms.proofs.SymmetryMembers.{facts_at_edges}
+use Rattle.packing_terms.proofs.Respected.{some_packing_respects}
 use Rattle.tree_terms.specs.Trees.{Verdict, Yes, No, Decided, Past, outcome, count_of}
 use Rattle.tree_terms.specs.ClassTree.{class_tree}
 use Rattle.tree_terms.specs.Search.{IsRightUnder}

@@ -10,7 +10,7 @@ use Rattle.packing_terms.specs.Packing.{PlainInstance, dims}
 use Rattle.packing_terms.specs.Limits.{IsInstance, IsInternalInstance}
 use Rattle.packing_terms.proofs.Internal.{written_internal}
 use Rattle.text_terms.specs.declared.settings.Settings.{Settings}
-use Rattle.front_terms.specs.Fronts.{IsLeastSize, IsFront, IsClaimed}
+use Rattle.verdict_terms.specs.Fronts.{IsLeastSize, IsFront, IsClaimed}
 use Rattle.answer_terms.specs.Walks.{PlainCorner, PlainPoint, sizes, front_walk, size_answer}
 use Rattle.answer_terms.proofs.Decided.{right_sizes, walks_are_fronts}
 use Rattle.answer_terms.proofs.Spent.{spent_exactly, enough}

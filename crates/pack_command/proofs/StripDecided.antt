@@ -5,17 +5,17 @@ use Rattle.std.proofs.lemmas.Bool.{true≢false}
 use Rattle.packing_terms.specs.Packing.{PlainInstance}
 use Rattle.packing_terms.specs.Limits.{IsInstance}
 use Rattle.packing_terms.specs.Tokens.{PlainToken}
-use Rattle.symmetry_terms.specs.Facts.{symmetry_facts}
+use Rattle.packing_terms.specs.Facts.{symmetry_facts}
 use Rattle.tree_terms.specs.ClassTree.{first_too_wide}
 use Rattle.tree_terms.specs.Levels.{PlainReached}
-use Rattle.reduced_levels.specs.Heights.{height_run_from}
-use Rattle.reduced_levels.proofs.Heights.{spent_from}
+use Rattle.tree_terms.specs.Heights.{height_run_from}
+use Rattle.tree_terms.proofs.Heights.{spent_from}
 use Rattle.tree_terms.proofs.FirstFound.{first_too_wide_is}
 use Rattle.answer_terms.specs.declared.job.ReducedJob.TheVariants.{Strip as FromStrip}
-use Rattle.document_terms.specs.declared.claim.SolvingJob.TheVariants.{Strip}
-use Rattle.document_terms.specs.declared.claim.Claim.{Claim}
-use Rattle.document_terms.specs.declared.claim.Claim.TheVariants.{LeastHeight, HeightBetween, NoHeight}
-use Rattle.document_terms.specs.Claims.{IsTrueOf}
+use Rattle.text_terms.specs.declared.claim.SolvingJob.TheVariants.{Strip}
+use Rattle.text_terms.specs.declared.claim.Claim.{Claim}
+use Rattle.text_terms.specs.declared.claim.Claim.TheVariants.{LeastHeight, HeightBetween, NoHeight}
+use Rattle.text_terms.specs.Claims.{IsTrueOf}
 use Rattle.answer_streams.specs.declared.tree_start.TreeStart.{TreeStart}
 use Rattle.answer_streams.specs.declared.tree_start.TreeStart.TheVariants.{Nothing, Facts}
 use Rattle.answer_terms.specs.Answers.{Answer, status_of}

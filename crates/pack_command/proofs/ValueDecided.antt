@@ -6,8 +6,8 @@ use Rattle.packing_terms.specs.Limits.{IsInstance}
 use Rattle.tree_terms.specs.Levels.{PlainReached, value_run}
 use Rattle.tree_terms.proofs.SpentRuns.{value_spent}
 use Rattle.answer_terms.specs.declared.job.DocumentJob.TheVariants.{Solving as Solves}
-use Rattle.document_terms.specs.declared.claim.SolvingJob.TheVariants.{Knapsack}
-use Rattle.document_terms.specs.declared.claim.Claim.TheVariants.{GreatestValue, ValueBetween}
+use Rattle.text_terms.specs.declared.claim.SolvingJob.TheVariants.{Knapsack}
+use Rattle.text_terms.specs.declared.claim.Claim.TheVariants.{GreatestValue, ValueBetween}
 use Rattle.answer_terms.specs.Answers.{answer_text, status_of}
 use Rattle.answer_terms.specs.Answers.Answer.{Claimed}
 use Rattle.answer_terms.specs.Solved.{solved, reached_claim}

@@ -7,7 +7,7 @@ use Rattle.packing_terms.specs.Packing.{PlainInstance}
 use Rattle.packing_terms.specs.Limits.{IsInstance}
 use Rattle.packing_terms.proofs.Internal.{written_internal, some_dimension}
 use Rattle.tree_terms.proofs.Counts.{class_count}
-use Rattle.reduced_levels.proofs.Heights.{spent_from, enough_from}
+use Rattle.tree_terms.proofs.Heights.{spent_from, enough_from}
 use Rattle.tree_terms.proofs.SpentRuns.{bins_spent, bins_enough, value_spent, value_enough}
 use Rattle.text_terms.specs.Texts.{text_instance}
 use Rattle.answer_terms.specs.declared.job.DocumentJob.{DocumentJob}
@@ -16,7 +16,7 @@ use Rattle.answer_terms.specs.declared.job.ReducedJob.TheVariants.{Fit as FromFi
 use Rattle.answer_streams.specs.declared.tree_start.TreeStart.{TreeStart}
 use Rattle.answer_streams.specs.declared.tree_start.TreeStart.TheVariants.{Nothing, Facts}
 use Rattle.answer_streams.specs.Headed.{start_facts}
-use Rattle.document_terms.specs.declared.claim.SolvingJob.TheVariants.{Fit, Strip, Bins, Knapsack}
+use Rattle.text_terms.specs.declared.claim.SolvingJob.TheVariants.{Fit, Strip, Bins, Knapsack}
 use Rattle.answer_terms.specs.Solved.{JobAnswer}
 use Rattle.pack_streams.specs.Moves.{Consumed, Appended}
 use Rattle.pack_words.specs.declared.job.JobWords.{JobWords}
@@ -24,7 +24,7 @@ use Rattle.pack_words.proofs.Walking.{some_inj}
 use Rattle.text_terms.specs.declared.settings.Settings.{Settings}
 use Rattle.pack_command.specs.Asked.{document_job, AsksToSolve}
 use Rattle.pack_command.specs.Answered.{answer_for, class_bound, IsDecided, IsBudgetSufficient}
-use Rattle.symmetry_terms.specs.Facts.{symmetry_facts}
+use Rattle.packing_terms.specs.Facts.{symmetry_facts}
 use Rattle.pack_command.specs.Decides.{IsJobDecided, AsksWhetherFits, StatusDecidesFit}
 use Rattle.pack_command.specs.Reductions.{IsReducedDecided}
 use Rattle.pack_command.specs.Strips.{IsStripDecided}

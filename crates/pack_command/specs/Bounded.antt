@@ -5,10 +5,10 @@ use Rattle.packing_terms.specs.Packing.{PlainInstance}
 use Rattle.packing_terms.specs.Goals.{IsGreatestValue}
 use Rattle.text_terms.specs.declared.settings.Settings.{Settings}
 use Rattle.tree_terms.specs.OuterSearch.{AreTakenNumbers}
-use Rattle.document_terms.specs.Claims.{IsValueBetween}
-use Rattle.document_terms.specs.declared.claim.Claim.{Claim}
+use Rattle.text_terms.specs.Claims.{IsValueBetween}
+use Rattle.text_terms.specs.declared.claim.Claim.{Claim}
 use Rattle.answer_terms.specs.Answers.{claim_status}
-use Rattle.bounded_terms.specs.BoundedRefutation.{BoundedToken, IsBoundedRefutation}
+use Rattle.verdict_terms.specs.BoundedRefutation.{BoundedToken, IsBoundedRefutation}
 use Rattle.answer_terms.specs.BoundedAnswers.{BoundedAnswer, IsBoundedAnswer, bounded_status, bounded_text}
 use Rattle.answer_terms.specs.BoundedLaws.{IsBoundedFor}
 use Rattle.bounded_choice.specs.Levels.{IsOpenWithout}

@@ -5,8 +5,8 @@ use Rattle.packing_terms.specs.Packing.{PlainInstance, IsPacking, Fits}
 use Rattle.packing_terms.specs.Goals.{with_last_side, IsLeastHeight}
 use Rattle.packing_terms.specs.TooLarge.{IsFirstTooWide}
 use Rattle.text_terms.specs.declared.settings.Settings.{Settings}
-use Rattle.document_terms.specs.Claims.{IsHeightBetween}
-use Rattle.family_terms.specs.FamilyRefutation.{FamilyToken, Free, RefutesFamilies}
+use Rattle.text_terms.specs.Claims.{IsHeightBetween}
+use Rattle.verdict_terms.specs.FamilyRefutation.{FamilyToken, Free, RefutesFamilies}
 use Rattle.answer_terms.specs.HeightAnswers.{BoundedStrip, Heights, NoneFits, IsBoundedStrip, strip_status, bounded_strip_text}
 use Rattle.bounded_heights.specs.Heights.{IsOpenWithout, IsOpenOnlyPast}
 use Rattle.proposed_answers.specs.Shares.{level_share}

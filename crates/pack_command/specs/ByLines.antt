@@ -7,7 +7,7 @@ use Rattle.pack_streams.specs.Moves.{Consumed}
 use Rattle.pack_streams.specs.Reading.{block}
 use Rattle.text_terms.specs.Texts.{no_parts}
 use Rattle.text_terms.specs.Feeding.{Lexer}
-use Rattle.document_terms.specs.declared.claim.SolvingJob.{SolvingJob}
+use Rattle.text_terms.specs.declared.claim.SolvingJob.{SolvingJob}
 use Rattle.verdict_terms.specs.declared.heading.Heading.TheVariants.{Bounded}
 use Rattle.verdict_terms.specs.Documents.{bounded_verdict}
 use Rattle.verdict_terms.specs.Fed.{NoneRefusedUnder}

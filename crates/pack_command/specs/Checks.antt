@@ -2,8 +2,8 @@
 use Rattle.std.specs.Prelude.{ℕ, ◌+◌, ◌≤◌, ◌≡◌, ◌⊎◌, List, length, take, Result, Ok, Err}
 use Rattle.std.specs.declared.option.Option.{Option}
 use Rattle.std.specs.Io.KnownBytes.{IsAtEnd}
-use Rattle.document_terms.specs.declared.claim.Claim.{Claim}
-use Rattle.document_terms.specs.Claims.{IsTrueOf}
+use Rattle.text_terms.specs.declared.claim.Claim.{Claim}
+use Rattle.text_terms.specs.Claims.{IsTrueOf}
 use Rattle.pack_streams.specs.Moves.{Consumed, Appended}
 use Rattle.pack_streams.specs.Writing.{AppendedPrefix}
 use Rattle.verdict_terms.specs.declared.heading.Heading.{Heading}

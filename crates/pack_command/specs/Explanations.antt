@@ -2,13 +2,13 @@
 use Rattle.std.specs.Prelude.{ℕ, ◌≡◌, Bool, true, false, List, [], Result, Ok, Err}
 use Rattle.packing_terms.specs.Packing.{Fits}
 use Rattle.text_terms.specs.Lines.{text_lines}
-use Rattle.document_terms.specs.declared.claim.Claim.{Claim}
-use Rattle.document_terms.specs.declared.claim.Claim.TheVariants.{NotFitting}
+use Rattle.text_terms.specs.declared.claim.Claim.{Claim}
+use Rattle.text_terms.specs.declared.claim.Claim.TheVariants.{NotFitting}
 use Rattle.verdict_terms.specs.declared.reason.Reason.TheVariants.{NoClaim}
 use Rattle.verdict_terms.specs.Documents.{Refusal, document_verdict, verdict_line}
 use Rattle.verdict_terms.specs.Form.{IsDocument}
-use Rattle.explained_terms.specs.Steps.{PlainStep, tokens_among}
-use Rattle.explained_terms.specs.Explaining.{Explains}
+use Rattle.verdict_terms.specs.Steps.{PlainStep, tokens_among}
+use Rattle.verdict_terms.specs.Explaining.{Explains}
 use Rattle.answer_terms.specs.Explained.{explained_text}
 use Rattle.document_refutations.specs.Refutations.{result_number}
 use Rattle.answer_streams.specs.declared.explained.Explanation.{Explanation}

@@ -7,8 +7,8 @@ use Rattle.packing_terms.specs.TooLarge.{IsFirstTooLarge}
 use Rattle.packing_terms.specs.Tokens.{PlainToken}
 use Rattle.packing_terms.specs.OuterRefutation.{IsBinRefutation}
 use Rattle.tree_terms.specs.OuterSearch.{AreBinNumbers}
-use Rattle.document_terms.specs.Claims.{IsBinsBetween}
-use Rattle.document_terms.specs.declared.claim.Claim.TheVariants.{LeastBins, BinsBetween, NoBins}
+use Rattle.text_terms.specs.Claims.{IsBinsBetween}
+use Rattle.text_terms.specs.declared.claim.Claim.TheVariants.{LeastBins, BinsBetween, NoBins}
 use Rattle.answer_terms.specs.Answers.{answer_text}
 use Rattle.answer_terms.specs.Answers.Answer.{Claimed}
 use Rattle.answer_terms.specs.Solved.{none_answer}

@@ -6,8 +6,8 @@ use Rattle.packing_terms.specs.Goals.{IsGreatestValue}
 use Rattle.packing_terms.specs.Tokens.{PlainToken}
 use Rattle.packing_terms.specs.OuterRefutation.{IsValueRefutation}
 use Rattle.tree_terms.specs.OuterSearch.{AreTakenNumbers}
-use Rattle.document_terms.specs.Claims.{IsValueBetween}
-use Rattle.document_terms.specs.declared.claim.Claim.TheVariants.{GreatestValue, ValueBetween}
+use Rattle.text_terms.specs.Claims.{IsValueBetween}
+use Rattle.text_terms.specs.declared.claim.Claim.TheVariants.{GreatestValue, ValueBetween}
 use Rattle.answer_terms.specs.Answers.{answer_text}
 use Rattle.answer_terms.specs.Answers.Answer.{Claimed}
 use Rattle.pack_streams.specs.Moves.{Appended}

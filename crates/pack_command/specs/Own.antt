@@ -2,7 +2,7 @@
 use Rattle.std.specs.Prelude.{ℕ, ◌≡◌, ◌⊎◌, List, Ok, Err}
 use Rattle.std.specs.declared.option.Option.{Option}
 use Rattle.packing_terms.specs.Packing.{PlainInstance}
-use Rattle.document_terms.specs.declared.claim.Claim.{Claim}
+use Rattle.text_terms.specs.declared.claim.Claim.{Claim}
 use Rattle.answer_terms.specs.declared.job.DocumentJob.{DocumentJob}
 use Rattle.answer_terms.specs.declared.job.DocumentJob.TheVariants.{Solving as Solves, Reduced as Reduces}
 use Rattle.answer_terms.specs.declared.job.ReducedJob.{ReducedJob}

@@ -7,15 +7,15 @@ use Rattle.packing_terms.specs.Goals.{with_last_side, IsLeastHeight}
 use Rattle.packing_terms.specs.TooLarge.{IsFirstTooWide}
 use Rattle.packing_terms.specs.Tokens.{PlainToken}
 use Rattle.packing_terms.specs.Refutation.{Refutes}
-use Rattle.document_terms.specs.Claims.{IsHeightBetween}
-use Rattle.document_terms.specs.declared.claim.Claim.TheVariants.{LeastHeight, HeightBetween, NoHeight}
+use Rattle.text_terms.specs.Claims.{IsHeightBetween}
+use Rattle.text_terms.specs.declared.claim.Claim.TheVariants.{LeastHeight, HeightBetween, NoHeight}
 use Rattle.answer_streams.specs.declared.tree_start.TreeStart.{TreeStart}
 use Rattle.answer_streams.specs.declared.tree_start.TreeStart.TheVariants.{Nothing}
 use Rattle.answer_terms.specs.Answers.Answer.{Claimed}
 use Rattle.answer_terms.specs.Solved.{none_answer}
 use Rattle.pack_streams.specs.Moves.{Appended}
 use Rattle.answer_streams.specs.Headed.{headed_text, start_facts}
-use Rattle.reduced_levels.specs.Heights.{HasHeightPastBudgetFrom}
+use Rattle.tree_terms.specs.Heights.{HasHeightPastBudgetFrom}
 use Rattle.text_terms.specs.declared.settings.Settings.{Settings}
 
 -- The least height over all packings, with places that are a packing in it and tokens that refute

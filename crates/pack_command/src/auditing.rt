@@ -1,9 +1,9 @@
 //! The job `audit`: a document of its kind is verified, or refused at its first faulty line.
 ghost use Rattle.std.specs.Prelude.{◌≡◌, ◌≢◌, ◌≤◌, length, IfOk, IfErr};
 ghost use Rattle.verdict_terms.specs.Documents.{reduced_verdict, bounded_verdict};
-ghost use Rattle.explained_documents.specs.Documents.{explained_verdict};
+ghost use Rattle.verdict_terms.specs.ExplainedDocumentDocuments.{explained_verdict};
 ghost use Rattle.answer_streams.specs.Verdicts.{plain_verdict};
-ghost use Rattle.front_verdict_terms.specs.Verdicts.{front_document_verdict};
+ghost use Rattle.verdict_terms.specs.FrontDocumentVerdicts.{front_document_verdict};
 ghost use Rattle.answer_streams.specs.Audited.{IsExplainedAs, IsFrontToldAs, IsToldAs, audit_verdict};
 ghost use Rattle.pack_command.specs.Counts.{CountsReads, CountsWrites};
 ghost use Rattle.pack_command.specs.Inputs.{max_audit_bytes};
@@ -16,14 +16,13 @@ use answer_streams::{AuditedVerdict, ExplainedVerdict, FrontAudited, Verdict, st
 use box_instances::NoMemory;
 use document_check::{Audit, CheckEnd, audit_document, check_rest};
 use document_openings::{Opened, open_document};
-use document_terms::SolvingJob;
 use explained_check::{ExplainedAudit, audit_explained, document_kind};
-use explained_documents::DocumentKind;
 use front_documents::{FrontAudit, audit_front_document};
 use instance_text::LineLexer;
 use pack_streams::{ReadStop, Sink, Source};
 use std::alloc::Global;
-use verdict_terms::Heading;
+use text_terms::SolvingJob;
+use verdict_terms::{DocumentKind, Heading};
 
 // The verdict on these bytes as a reduced document.
 fn reduced_on(alloc: Global, bytes: &[u8]) -> Result<Verdict, NoMemory>

@@ -1,6 +1,6 @@
 //! The job `explain`: the refutation in a document, explained step by step.
 ghost use Rattle.std.specs.Prelude.{◌≡◌, ◌≢◌, ◌≤◌, length, Ok, IfOk, IfErr};
-ghost use Rattle.document_terms.specs.declared.claim.Claim.TheVariants.{NotFitting};
+ghost use Rattle.text_terms.specs.declared.claim.Claim.TheVariants.{NotFitting};
 ghost use Rattle.verdict_terms.specs.Documents.{document_verdict};
 ghost use Rattle.pack_command.specs.Counts.{CountsReads, CountsWrites};
 ghost use Rattle.pack_command.specs.Inputs.{max_audit_bytes};
@@ -13,9 +13,9 @@ use answer_streams::{Explanation, stream};
 use box_instances::NoMemory;
 use document_check::{Audit, audit_document};
 use document_refutations::{read_refutation, result_line};
-use document_terms::Claim;
 use pack_streams::{Sink, Source};
 use std::alloc::Global;
+use text_terms::Claim;
 use verdict_terms::{Heading, Reason};
 
 // Whether the claim is that the boxes don't fit.

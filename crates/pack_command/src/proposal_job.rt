@@ -11,7 +11,6 @@ use crate::input::read_input;
 use crate::stop::Stop;
 use answer_streams::{AnswerDocument, Solution, stream};
 use box_instances::{Instance, NoMemory};
-use document_terms::SolvingJob;
 use pack_streams::{Sink, Source};
 use proposed_answers::{
     decide_proposed, greatest_value_proposed, least_bins_proposed, least_height_proposed,
@@ -19,6 +18,7 @@ use proposed_answers::{
 use std::alloc::Global;
 use std::sync::Wait;
 use std::thread::Threads;
+use text_terms::SolvingJob;
 use work_share::{Gate, Settings};
 
 // What is found for an instance, by proposals first.

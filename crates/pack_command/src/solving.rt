@@ -8,12 +8,12 @@ use answer_terms::{DocumentJob, ReducedJob};
 use bin_knapsack::{greatest_value, least_bins};
 use box_instances::{Instance, NoMemory};
 use class_search::decide;
-use document_terms::SolvingJob;
 use std::alloc::Global;
 use std::sync::Wait;
 use std::thread::Threads;
 use strip_solver::{least_height, least_height_reduced};
 use symmetry_facts::decide_reduced;
+use text_terms::SolvingJob;
 use work_share::{Gate, Settings};
 
 // What a solving job finds for an instance under these settings.

@@ -3,9 +3,9 @@ ghost use Rattle.pack_command.specs.Asked.{IsAsked};
 
 use crate::stop::Stop;
 use answer_terms::{DocumentJob, ReducedJob};
-use document_terms::SolvingJob;
 use pack_words::{Job, WordsError, read_words};
 use std::alloc::Global;
+use text_terms::SolvingJob;
 use work_share::Settings;
 
 /// What the words ask for.

@@ -3,8 +3,8 @@ use Rattle.std.specs.Prelude.{ℕ, ◌≡◌, ◌&&◌, ◌||◌, Bool, true, fa
 use Rattle.std.specs.Prelude.{Result, Ok, Err, codes, is_some, if◌then◌else◌}
 use Rattle.std.specs.Str.{bytes_eq}
 use Rattle.text_terms.specs.Lines.{number_of}
-use Rattle.document_terms.specs.declared.claim.SolvingJob.TheVariants.{Fit as SolvesFit, Strip as SolvesStrip}
-use Rattle.document_terms.specs.declared.claim.SolvingJob.TheVariants.{Bins as SolvesBins, Knapsack as SolvesKnapsack}
+use Rattle.text_terms.specs.declared.claim.SolvingJob.TheVariants.{Fit as SolvesFit, Strip as SolvesStrip}
+use Rattle.text_terms.specs.declared.claim.SolvingJob.TheVariants.{Bins as SolvesBins, Knapsack as SolvesKnapsack}
 use Rattle.pack_words.specs.Items.{Text, Item, option, word, items_from}
 use Rattle.pack_words.specs.declared.job.Job.{Job}
 use Rattle.pack_words.specs.declared.job.Job.TheVariants.{Fit, Strip, Bins, Knapsack, Check, Make, Audit, Explain}

@@ -1,7 +1,6 @@
 //! The job of a command line.
 
-use document_terms::SolvingJob;
-use text_terms::Settings;
+use text_terms::{Settings, SolvingJob};
 use thiserror::Error;
 
 /// What is to be done.

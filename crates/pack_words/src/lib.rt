@@ -6,7 +6,6 @@ mod job;
 mod texts;
 mod words;
 
-pub use document_terms::SolvingJob;
 pub use job::{Job, JobWords, WordsError};
-pub use text_terms::Settings;
+pub use text_terms::{Settings, SolvingJob};
 pub use words::read_words;

@@ -5,8 +5,7 @@ ghost use Rattle.pack_words.specs.Said.{plain_found};
 
 use crate::job::{Job, JobWords};
 use crate::words::Found;
-use document_terms::SolvingJob;
-use text_terms::{Settings, read_number};
+use text_terms::{Settings, SolvingJob, read_number};
 
 fn job_of_name(word: &str) -> Option<Job>
     ensures { result ≡ job_of_name word.now }

@@ -22,3 +22,13 @@ pub mod Rank
 pub mod Generator
 pub mod Results
 pub mod Rising
+pub mod Rounds
+pub mod Steps
+pub mod Applied
+pub mod Runs
+pub mod Places
+pub mod SetChains
+pub mod Intervals
+pub mod Containers
+pub mod Facts
+pub mod Orders

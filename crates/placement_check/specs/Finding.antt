@@ -2,7 +2,7 @@
 use Rattle.std.specs.Prelude.{ℕ, ◌+◌, ◌<◌, List}
 use Rattle.packing_terms.specs.Packing.{PlainInstance, dims, box_count, kerf, written_container, written_side, place}
 use Rattle.packing_terms.specs.Packing.{AreApart}
-use Rattle.check_terms.specs.Tested.{LiesWithin}
+use Rattle.verdict_terms.specs.Tested.{LiesWithin}
 
 -- the first dimension in which the box leaves the container
 pub record LeavesFirst (instance : PlainInstance) (places : List ℕ) (v i : ℕ) : Type 0 where

@@ -4,5 +4,5 @@
 
 mod verdict;
 
-pub use check_terms::PlaceVerdict;
 pub use verdict::check_places;
+pub use verdict_terms::PlaceVerdict;

@@ -1,12 +1,12 @@
 //! The first place that leaves the container, and the first two boxes that are not apart.
 ghost use Rattle.std.specs.Prelude.{◌≡◌, ◌<◌, ◌≤◌, ◌+◌, ◌*◌, ℕ, length, MatchBool, MatchOption};
 ghost use Rattle.packing_terms.specs.Packing.{dims, box_count, kerf, written_container, written_side, place, AreApart};
-ghost use Rattle.check_terms.specs.Placing.{place_verdict};
-ghost use Rattle.check_terms.specs.Tested.{LiesWithin, IsFirstOutside, IsFirstOverlap, TellsOfPlaces};
+ghost use Rattle.verdict_terms.specs.Placing.{place_verdict};
+ghost use Rattle.verdict_terms.specs.Tested.{LiesWithin, IsFirstOutside, IsFirstOverlap, TellsOfPlaces};
 ghost use Rattle.placement_check.specs.Finding.{LeavesFirst, AreCrossing, CrossesFirst, NoneCrosses};
 
 use box_instances::Instance;
-use check_terms::PlaceVerdict;
+use verdict_terms::PlaceVerdict;
 
 // A coordinate of a box.
 fn coordinate(instance: &Instance, places: &[u32], box_no: u32, dim: u32) -> u32

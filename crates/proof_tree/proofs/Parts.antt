@@ -7,7 +7,7 @@ use Rattle.std.proofs.lemmas.List.{take-append-drop, length-take-le, length-drop
 use Rattle.std.proofs.lemmas.List.{take_more, drop_all, flat_map_more}
 use Rattle.packing_terms.specs.Tokens.{PlainToken}
 use Rattle.text_terms.specs.Spelling.{spaced, lines_text}
-use Rattle.document_terms.specs.TokenLines.{token_words}
+use Rattle.text_terms.specs.TokenLines.{token_words}
 use Rattle.proof_tree.specs.declared.short.Short.{Short}
 use Rattle.proof_tree.specs.declared.token.Token.{Token}
 use Rattle.proof_tree.specs.Plain.{plain_token}

@@ -7,8 +7,8 @@ use Rattle.std.proofs.lemmas.List.{length-drop}
 use Rattle.packing_terms.specs.declared.ScaleFn.{ScaleFn}
 use Rattle.packing_terms.specs.Tokens.{PlainToken}
 use Rattle.text_terms.specs.Lines.{Line}
-use Rattle.document_terms.specs.TokenLines.{parameters, in_front, functions, of_none, set_token, token_of, line_token}
-use Rattle.document_terms.proofs.Cuts.{parameters_many, functions_many}
+use Rattle.text_terms.specs.TokenLines.{parameters, in_front, functions, of_none, set_token, token_of, line_token}
+use Rattle.text_terms.proofs.Cuts.{parameters_many, functions_many}
 use Rattle.proof_tree.specs.declared.reading.Kind.{Kind}
 use Rattle.proof_tree.specs.declared.reading.Kind.TheVariants.{Apart, Order, Rules, TooLarge, Scales, Assign, Choose}
 use Rattle.proof_tree.specs.declared.reading.Kind.TheVariants.{SetRefuted, ValueShort, GlobalScales}

@@ -5,8 +5,8 @@ use Rattle.packing_terms.specs.Tokens.{PlainToken}
 use Rattle.packing_terms.specs.Tokens.PlainToken.{Apart, Order, Rules, TooLarge, Scales, Assign, Choose, ValueShort}
 use Rattle.packing_terms.specs.Tokens.PlainToken.{GlobalScales}
 use Rattle.text_terms.specs.Lines.{same_bytes}
-use Rattle.document_terms.specs.TokenLines.{parameters, in_front, functions, tuple_of, of_none, of_one, of_two}
-use Rattle.document_terms.specs.TokenLines.{of_three, set_token}
+use Rattle.text_terms.specs.TokenLines.{parameters, in_front, functions, tuple_of, of_none, of_one, of_two}
+use Rattle.text_terms.specs.TokenLines.{of_three, set_token}
 use Rattle.proof_tree.specs.declared.reading.Kind.{Kind}
 use Rattle.proof_tree.specs.declared.reading.Kind.TheVariants.{Apart as IsApart, Order as IsOrder, Rules as IsRules}
 use Rattle.proof_tree.specs.declared.reading.Kind.TheVariants.{TooLarge as IsTooLarge, Scales as IsScales}

@@ -1,7 +1,7 @@
 //! The token that a line is.
 ghost use Rattle.std.specs.Prelude.{◌≡◌, ◌<◌, ◌≤◌, ◌+◌, length, drop, slice_index_or, option_map, []};
 ghost use Rattle.text_terms.specs.Feeding.{ended_line};
-ghost use Rattle.document_terms.specs.TokenLines.{parameter, parameters, named_function, functions, of_none, set_token, line_token};
+ghost use Rattle.text_terms.specs.TokenLines.{parameter, parameters, named_function, functions, of_none, set_token, line_token};
 ghost use Rattle.proof_tree.specs.Plain.{plain_token};
 ghost use Rattle.proof_tree.specs.Kinds.{kind_of, of_kind, only, two_only, three_only, tuple_only, IsFunctionAt};
 

@@ -1,10 +1,10 @@
 //! Instances, whether places are a packing, and whether two outcomes are the same.
 use box_instances::{BoxItem, Instance, Sides};
-use check_terms::PlaceVerdict;
 use placement_check::check_places;
 use proof_tree::Outcome;
 use std::alloc::Global;
 use std::test::Fail;
+use verdict_terms::PlaceVerdict;
 use work_share::Settings;
 
 /// The instance of these boxes.

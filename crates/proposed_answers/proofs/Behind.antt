@@ -7,15 +7,15 @@ use Rattle.packing_terms.specs.Limits.{IsInternalInstance}
 use Rattle.packing_terms.specs.Refutation.{Refutes}
 use Rattle.packing_terms.proofs.Internal.{internal_sides}
 use Rattle.packing_terms.proofs.Refuted.{none_fits}
-use Rattle.scale_terms.proofs.Excess.{excess_law}
+use Rattle.packing_terms.proofs.Excess.{excess_law}
 use Rattle.tree_terms.specs.Trees.{PlainOutcome, Decided, Past, Verdict, Yes, No, outcome, count_of, under_budget}
 use Rattle.tree_terms.specs.ClassTree.{class_tree}
 use Rattle.tree_terms.proofs.Told.{told_decided}
-use Rattle.check_terms.specs.declared.answers.PlaceVerdict.{PlaceVerdict}
-use Rattle.check_terms.specs.declared.answers.PlaceVerdict.TheVariants.{Good, Outside, Overlap}
-use Rattle.check_terms.specs.Placing.{place_verdict}
-use Rattle.check_terms.proofs.Places.{places_tested}
-use Rattle.check_terms.proofs.Refuting.{inner_fed}
+use Rattle.verdict_terms.specs.declared.check_answers.PlaceVerdict.{PlaceVerdict}
+use Rattle.verdict_terms.specs.declared.check_answers.PlaceVerdict.TheVariants.{Good, Outside, Overlap}
+use Rattle.verdict_terms.specs.Placing.{place_verdict}
+use Rattle.verdict_terms.proofs.Places.{places_tested}
+use Rattle.verdict_terms.proofs.Refuting.{inner_fed}
 use Rattle.proof_tree.specs.declared.token.Token.{Token}
 use Rattle.proof_tree.specs.Plain.{plain_token}
 use Rattle.class_search.specs.Right.{IsRight, Decides, IsYesOrNo}

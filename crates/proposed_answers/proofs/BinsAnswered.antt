@@ -10,7 +10,7 @@ use Rattle.packing_terms.specs.Tokens.{PlainToken}
 use Rattle.packing_terms.proofs.Internal.{internal_sides}
 use Rattle.packing_terms.proofs.Neighbours.{fits_in_more, least_bins}
 use Rattle.packing_terms.proofs.BinsRefuted.{none_fits_bins}
-use Rattle.scale_terms.proofs.Excess.{excess_law}
+use Rattle.packing_terms.proofs.Excess.{excess_law}
 use Rattle.tree_terms.specs.Trees.{Verdict, Yes, No, Decided, Past, outcome}
 use Rattle.tree_terms.specs.OuterTrees.{bin_tree}
 use Rattle.tree_terms.specs.OuterSearch.{bins_in, places_in, AreBinNumbers, IsBinRight}
@@ -18,8 +18,8 @@ use Rattle.tree_terms.specs.Levels.{PlainReached, level_by, bin_run}
 use Rattle.tree_terms.specs.RunEnds.{bin_answer}
 use Rattle.tree_terms.proofs.SpentRuns.{bins_end}
 use Rattle.text_terms.specs.declared.settings.Settings.{Settings}
-use Rattle.level_bounds.specs.Bounds.{PlainBounds, first_bounds, without_attempts, HasNoLevelLeft, IsClosed, AreBounds}
-use Rattle.level_bounds.proofs.Narrowing.{are_first, closed}
+use Rattle.level_search.specs.Bounds.{PlainBounds, first_bounds, without_attempts, HasNoLevelLeft, IsClosed, AreBounds}
+use Rattle.level_search.proofs.Narrowing.{are_first, closed}
 use Rattle.bin_knapsack.specs.declared.bins.Bins.{Bins}
 use Rattle.bin_knapsack.specs.declared.bins.Bins.TheVariants.{Least, Between, NoneFits}
 use Rattle.bin_knapsack.specs.BinAnswers.{IsAnswer, AreTrueBins, IsCertifiedBetween}

@@ -10,7 +10,7 @@ use Rattle.packing_terms.specs.OuterRefutation.{IsValueRefutation, no_choice}
 use Rattle.packing_terms.proofs.Internal.{internal_sides}
 use Rattle.packing_terms.proofs.Neighbours.{reaches_lower, greatest_value}
 use Rattle.packing_terms.proofs.ValueRefuted.{none_reaches}
-use Rattle.scale_terms.proofs.Excess.{excess_law}
+use Rattle.packing_terms.proofs.Excess.{excess_law}
 use Rattle.tree_terms.specs.Trees.{Verdict, Yes, No, Decided, Past, outcome}
 use Rattle.tree_terms.specs.OuterTrees.{choice_tree}
 use Rattle.tree_terms.specs.OuterSearch.{AreTakenNumbers, IsChoiceRight}
@@ -21,9 +21,9 @@ use Rattle.tree_terms.proofs.OuterDecisions.{choice_tree_right}
 use Rattle.text_terms.specs.declared.settings.Settings.{Settings}
 use Rattle.level_search.specs.declared.level.Level.{Level}
 use Rattle.level_search.specs.Runs.{plain_level}
-use Rattle.level_bounds.specs.Bounds.{PlainBounds, first_bounds, without_attempts, narrowed, levels_left, IsAsked, HasNoLevelLeft}
-use Rattle.level_bounds.specs.Bounds.{IsClosed, AreBounds}
-use Rattle.level_bounds.proofs.Narrowing.{are_first, step, closed}
+use Rattle.level_search.specs.Bounds.{PlainBounds, first_bounds, without_attempts, narrowed, levels_left, IsAsked, HasNoLevelLeft}
+use Rattle.level_search.specs.Bounds.{IsClosed, AreBounds}
+use Rattle.level_search.proofs.Narrowing.{are_first, step, closed}
 use Rattle.bin_knapsack.specs.declared.choice.Choice.{Choice}
 use Rattle.bin_knapsack.specs.declared.choice.Choice.TheVariants.{Greatest, Between}
 use Rattle.bin_knapsack.specs.Choices.{IsTrueChoice}

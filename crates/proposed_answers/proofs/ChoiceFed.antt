@@ -9,10 +9,10 @@ use Rattle.packing_terms.specs.Tokens.{PlainToken}
 use Rattle.packing_terms.specs.OuterRefutation.{Choice as BoxChoice, no_choice, IsValueRefutation}
 use Rattle.packing_terms.specs.OuterPaths.{OuterView, Whole, On, At, Inside, open_nodes, view_after, choices_with}
 use Rattle.packing_terms.specs.OuterPaths.{choice_step}
-use Rattle.check_terms.specs.declared.answers.RefuseCode.{RefuseCode}
-use Rattle.check_terms.specs.OuterJudging.{value_refusal}
-use Rattle.check_terms.specs.Checking.{value_after, checked_by, checked_after_all, is_whole as is_whole_checked}
-use Rattle.check_terms.proofs.Refuting.{value_tree_fed}
+use Rattle.verdict_terms.specs.declared.check_answers.RefuseCode.{RefuseCode}
+use Rattle.verdict_terms.specs.OuterJudging.{value_refusal}
+use Rattle.verdict_terms.specs.Checking.{value_after, checked_by, checked_after_all, is_whole as is_whole_checked}
+use Rattle.verdict_terms.proofs.Refuting.{value_tree_fed}
 use Rattle.proof_tree.specs.declared.token.Token.{Token}
 use Rattle.proof_tree.specs.Plain.{plain_token}
 use Rattle.outer_check.specs.Outers.{PlainOuter, ForValue, fed, fed_by, is_whole, judged_at, left_open}

@@ -8,10 +8,10 @@ use Rattle.std.proofs.lemmas.List.{length-map, nil_from_length}
 use Rattle.packing_terms.specs.Packing.{PlainInstance, IsPacking, dims}
 use Rattle.packing_terms.specs.Goals.{subset, worth, IsBoxSet}
 use Rattle.packing_terms.proofs.Neighbours.{none_packed}
-use Rattle.check_terms.specs.declared.answers.PlaceVerdict.{PlaceVerdict}
-use Rattle.check_terms.specs.declared.answers.PlaceVerdict.TheVariants.{Good, Overlap}
-use Rattle.check_terms.specs.Placing.{place_verdict}
-use Rattle.check_terms.proofs.Places.{places_tested}
+use Rattle.verdict_terms.specs.declared.check_answers.PlaceVerdict.{PlaceVerdict}
+use Rattle.verdict_terms.specs.declared.check_answers.PlaceVerdict.TheVariants.{Good, Overlap}
+use Rattle.verdict_terms.specs.Placing.{place_verdict}
+use Rattle.verdict_terms.proofs.Places.{places_tested}
 use Rattle.tree_terms.specs.OuterTrees.{choice_numbers}
 use Rattle.proposed_answers.specs.Values.{IsChoice, top_value, ShowsLevel}
 

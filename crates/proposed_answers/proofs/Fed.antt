@@ -6,7 +6,7 @@ use Rattle.packing_terms.specs.declared.Exclusion.{Exclusion}
 use Rattle.packing_terms.specs.Packing.{PlainInstance}
 use Rattle.packing_terms.specs.Tokens.{PlainToken}
 use Rattle.box_instances.specs.Sets.{all_boxes}
-use Rattle.check_terms.specs.Checking.{Checked, starting, checked_after, checked_after_all, inner_after}
+use Rattle.verdict_terms.specs.Checking.{Checked, starting, checked_after, checked_after_all, inner_after}
 use Rattle.proof_tree.specs.declared.token.Token.{Token}
 use Rattle.proof_tree.specs.Plain.{plain_token}
 use Rattle.refutation_check.specs.Refuters.{PlainRefuter, fed}

@@ -10,10 +10,10 @@ use Rattle.packing_terms.specs.declared.ScaleFn.{ScaleFn}
 use Rattle.packing_terms.specs.Packing.{PlainInstance, dims, box_count}
 use Rattle.packing_terms.specs.Exclusions.{Exclusions, excludes}
 use Rattle.packing_terms.specs.Rank.{ranked_pairs}
-use Rattle.check_terms.specs.declared.answers.PlaceVerdict.{PlaceVerdict}
-use Rattle.check_terms.specs.declared.answers.PlaceVerdict.TheVariants.{Good, Outside, Overlap}
-use Rattle.check_terms.specs.Placing.{place_verdict}
-use Rattle.rule_terms.specs.Rounds.{closure, has_empty_mask}
+use Rattle.verdict_terms.specs.declared.check_answers.PlaceVerdict.{PlaceVerdict}
+use Rattle.verdict_terms.specs.declared.check_answers.PlaceVerdict.TheVariants.{Good, Outside, Overlap}
+use Rattle.verdict_terms.specs.Placing.{place_verdict}
+use Rattle.packing_terms.specs.Rounds.{closure, has_empty_mask}
 use Rattle.tree_terms.specs.Trees.{SearchTree, Verdict, Yes, No, join, join_from, outcome, PlainOutcome, Decided, Past}
 use Rattle.tree_terms.specs.Trees.{under_budget, count_of}
 use Rattle.tree_terms.specs.InnerTree.{SplitNode, chosen_split, split_at, is_unsettled, node_of, node_tree, tree_below}

@@ -7,15 +7,15 @@ use Rattle.packing_terms.specs.Tokens.{PlainToken}
 use Rattle.packing_terms.proofs.Internal.{internal_sides}
 use Rattle.packing_terms.proofs.Neighbours.{fits_higher, least_height}
 use Rattle.packing_terms.proofs.Refuted.{none_fits}
-use Rattle.scale_terms.proofs.Excess.{excess_law}
+use Rattle.packing_terms.proofs.Excess.{excess_law}
 use Rattle.tree_terms.specs.Trees.{PlainOutcome, Decided, Past, Yes, No}
 use Rattle.tree_terms.specs.Levels.{PlainReached, level_by, height_run}
 use Rattle.tree_terms.proofs.Optima.{stack_small, internal_at}
 use Rattle.tree_terms.proofs.SpentRuns.{height_end}
 use Rattle.text_terms.specs.declared.settings.Settings.{Settings}
 use Rattle.class_search.specs.Right.{IsRight}
-use Rattle.level_bounds.specs.Bounds.{PlainBounds, first_bounds, without_attempts, HasNoLevelLeft, IsClosed}
-use Rattle.level_bounds.proofs.Narrowing.{are_first, closed}
+use Rattle.level_search.specs.Bounds.{PlainBounds, first_bounds, without_attempts, HasNoLevelLeft, IsClosed}
+use Rattle.level_search.proofs.Narrowing.{are_first, closed}
 use Rattle.strip_solver.specs.declared.strip.Strip.{Strip}
 use Rattle.strip_solver.specs.declared.strip.Strip.TheVariants.{Least, Between, NoneFits}
 use Rattle.strip_solver.specs.Strips.{IsAnswer, IsTrueStrip, IsCertifiedBetween}

@@ -6,8 +6,8 @@ use Rattle.packing_terms.specs.Packing.{PlainInstance}
 use Rattle.packing_terms.specs.OuterRefutation.{IsValueRefutation}
 use Rattle.packing_terms.specs.Tokens.{PlainToken}
 use Rattle.tree_terms.specs.Levels.{RefutedBy}
-use Rattle.level_bounds.specs.Bounds.{PlainBounds, narrowed}
-use Rattle.level_bounds.proofs.Narrowing.{step}
+use Rattle.level_search.specs.Bounds.{PlainBounds, narrowed}
+use Rattle.level_search.proofs.Narrowing.{step}
 use Rattle.proposed_answers.specs.Values.{top_value, value_at, ShowsLevel, RefutesLevel, AreFirstBounds}
 
 -- tokens that pass their test refute the value

@@ -10,7 +10,7 @@ use Rattle.tree_terms.specs.OuterTrees.{bin_tree}
 use Rattle.tree_terms.specs.OuterSearch.{AreBinNumbers}
 use Rattle.tree_terms.specs.Levels.{PlainLevel}
 use Rattle.text_terms.specs.declared.settings.Settings.{Settings}
-use Rattle.level_bounds.specs.Bounds.{PlainBounds, IsRightAnswer, AreBounds}
+use Rattle.level_search.specs.Bounds.{PlainBounds, IsRightAnswer, AreBounds}
 use Rattle.bin_knapsack.specs.declared.bins.Bins.{Bins}
 use Rattle.bin_knapsack.specs.declared.bins.Bins.TheVariants.{Least, Between, NoneFits}
 

@@ -8,7 +8,7 @@ use Rattle.packing_terms.specs.TooLarge.{IsFirstTooWide}
 use Rattle.packing_terms.specs.Tokens.{PlainToken}
 use Rattle.tree_terms.specs.Levels.{PlainLevel}
 use Rattle.text_terms.specs.declared.settings.Settings.{Settings}
-use Rattle.level_bounds.specs.Bounds.{PlainBounds, IsRightAnswer, AreBounds}
+use Rattle.level_search.specs.Bounds.{PlainBounds, IsRightAnswer, AreBounds}
 use Rattle.strip_solver.specs.declared.strip.Strip.{Strip}
 use Rattle.strip_solver.specs.declared.strip.Strip.TheVariants.{Least, Between, NoneFits}
 use Rattle.proposed_answers.specs.Behind.{tree_count}

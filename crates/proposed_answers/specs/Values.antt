@@ -15,7 +15,7 @@ use Rattle.tree_terms.specs.OuterSearch.{AreTakenNumbers}
 use Rattle.tree_terms.specs.Levels.{PlainLevel, first_values}
 use Rattle.text_terms.specs.declared.settings.Settings.{Settings}
 use Rattle.proposed_answers.specs.Shares.{level_share}
-use Rattle.level_bounds.specs.Bounds.{PlainBounds, IsRightAnswer, AreBounds}
+use Rattle.level_search.specs.Bounds.{PlainBounds, IsRightAnswer, AreBounds}
 use Rattle.bin_knapsack.specs.declared.choice.Choice.{Choice}
 use Rattle.bin_knapsack.specs.declared.choice.Choice.TheVariants.{Greatest, Between}
 

@@ -1,12 +1,12 @@
 //! Numbers of bins between two others, each decided by its bin tree.
 ghost use Rattle.std.specs.Prelude.{◌≡◌, IfOk};
 ghost use Rattle.packing_terms.specs.Scales.{SidesFit};
-ghost use Rattle.level_bounds.specs.Bounds.{plain_bounds, HasNoLevelLeft};
+ghost use Rattle.level_search.specs.Bounds.{plain_bounds, HasNoLevelLeft};
 ghost use Rattle.proposed_answers.specs.Counts.{AreBinBounds};
 
 use bin_knapsack::decide_bins;
 use box_instances::{Instance, NoMemory};
-use level_bounds::Bounds;
+use level_search::Bounds;
 use set_search::SetSearch;
 use std::alloc::Global;
 use std::sync::Wait;

@@ -11,7 +11,6 @@ use crate::proposing::{propose_packed, propose_refuted};
 use crate::steps::branching_steps;
 use crate::testing::{is_refutation, wanted};
 use box_instances::{Instance, NoMemory};
-use check_terms::PlaceVerdict;
 use class_search::decide;
 use conflict_search::Proposal;
 use placement_check::check_places;
@@ -19,6 +18,7 @@ use proof_tree::{CompactTokens, Outcome};
 use std::alloc::Global;
 use std::sync::Wait;
 use std::thread::Threads;
+use verdict_terms::PlaceVerdict;
 use work_share::{Gate, Settings};
 
 /// What a proposal shows of an instance, with no tree behind it: places that are a packing a yes,

@@ -1,6 +1,6 @@
 //! The greatest value, by proposals first.
 ghost use Rattle.std.specs.Prelude.{◌≡◌, ◌<◌, ◌≤◌, IfOk};
-ghost use Rattle.level_bounds.specs.Bounds.{plain_bounds, HasNoLevelLeft};
+ghost use Rattle.level_search.specs.Bounds.{plain_bounds, HasNoLevelLeft};
 ghost use Rattle.bin_knapsack.specs.Choices.{IsTrueChoice};
 ghost use Rattle.proposed_answers.specs.Shares.{level_share};
 ghost use Rattle.proposed_answers.specs.Values.{top_value, AreValueBounds, AreFirstBounds, TellsValues, IsLimitedChoice, AreNeighboursPastBudget};
@@ -13,7 +13,7 @@ use crate::values::{ask_beside, narrow_values};
 use bin_knapsack::{Choice, first_values};
 use box_instances::{Instance, NoMemory};
 use choice_search::choice_numbers;
-use level_bounds::{Bounds, Level};
+use level_search::{Bounds, Level};
 use proposals::propose_choice;
 use set_search::SetSearch;
 use std::alloc::Global;

@@ -6,7 +6,7 @@ ghost use Rattle.tree_terms.specs.Trees.{Past as PlainPast};
 ghost use Rattle.work_share.specs.Outcomes.{plain_outcome};
 ghost use Rattle.class_search.specs.Right.{IsRight};
 ghost use Rattle.level_search.specs.Runs.{plain_level};
-ghost use Rattle.level_bounds.specs.Bounds.{plain_bounds, HasNoLevelLeft};
+ghost use Rattle.level_search.specs.Bounds.{plain_bounds, HasNoLevelLeft};
 ghost use Rattle.proposed_answers.specs.Shares.{level_share};
 ghost use Rattle.proposed_answers.specs.Heights.{IsPastTree, IsHeightAnswer, AreHeightBounds};
 
@@ -17,8 +17,7 @@ use crate::purse::Purse;
 use box_instances::{Instance, NoMemory};
 use class_search::decide;
 use conflict_search::Proposal;
-use level_bounds::{Bounds, updated_misses};
-use level_search::{Level, level_of};
+use level_search::{Bounds, Level, level_of, updated_misses};
 use proof_tree::Outcome;
 use proposals::propose_height;
 use std::alloc::Global;

@@ -2,7 +2,7 @@
 ghost use Rattle.std.specs.Prelude.{◌≡◌, ◌<◌, ◌≤◌, IfOk};
 ghost use Rattle.packing_terms.specs.Goals.{HasTooLargeBox};
 ghost use Rattle.packing_terms.specs.Limits.{max_boxes};
-ghost use Rattle.level_bounds.specs.Bounds.{plain_bounds};
+ghost use Rattle.level_search.specs.Bounds.{plain_bounds};
 ghost use Rattle.bin_knapsack.specs.BinAnswers.{AreTrueBins};
 ghost use Rattle.proposed_answers.specs.Counts.{AreFirstBounds, TellsBins, AreNamedBins, AreLimitedBins, AreNeighboursPastBudget};
 
@@ -10,7 +10,7 @@ use crate::bin_testing::are_bin_numbers;
 use crate::counts::narrow_bins;
 use bin_knapsack::{Bins, least_bins};
 use box_instances::{Instance, NoMemory};
-use level_bounds::{Bounds, Level};
+use level_search::{Bounds, Level};
 use proposals::propose_bins;
 use set_search::{MAX_BUDGET, SetSearch};
 use std::alloc::Global;

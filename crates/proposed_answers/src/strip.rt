@@ -2,7 +2,7 @@
 ghost use Rattle.std.specs.Prelude.{◌<◌, ◌≤◌, IfOk};
 ghost use Rattle.packing_terms.specs.Goals.{HasTooWideBox};
 ghost use Rattle.packing_terms.specs.Limits.{max_height};
-ghost use Rattle.level_bounds.specs.Bounds.{plain_bounds};
+ghost use Rattle.level_search.specs.Bounds.{plain_bounds};
 ghost use Rattle.strip_solver.specs.Strips.{IsTrueStrip};
 ghost use Rattle.proposed_answers.specs.Heights.{AreHeightBounds, TellsHeights, IsNamedStrip, IsLimitedStrip, AreNeighboursPastBudget};
 
@@ -11,7 +11,7 @@ use crate::heights::{lowered, narrow_heights, narrow_in_rounds};
 use crate::purse::Purse;
 use crate::steps::swap_batches;
 use box_instances::{Instance, NoMemory};
-use level_bounds::Bounds;
+use level_search::Bounds;
 use std::alloc::Global;
 use std::sync::Wait;
 use std::thread::Threads;

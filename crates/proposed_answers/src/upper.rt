@@ -1,11 +1,11 @@
 //! The refuted value, lowered by proposed trees before any choice tree has the whole budget.
 ghost use Rattle.std.specs.Prelude.{◌≡◌, IfOk};
-ghost use Rattle.level_bounds.specs.Bounds.{plain_bounds};
+ghost use Rattle.level_search.specs.Bounds.{plain_bounds};
 ghost use Rattle.proposed_answers.specs.Values.{top_value, AreFirstBounds};
 
 use crate::refuting::is_value_refutation;
 use box_instances::{Instance, NoMemory};
-use level_bounds::{Bounds, Level};
+use level_search::{Bounds, Level};
 use outer_proposals::propose_value_refutation;
 use proof_tree::{CompactTokens, Token};
 use std::alloc::Global;

@@ -1,14 +1,14 @@
 //! Values between two others, each decided by its choice tree.
 ghost use Rattle.std.specs.Prelude.{◌≡◌, ◌<◌, ◌≤◌, pred, IfOk};
 ghost use Rattle.level_search.specs.Runs.{plain_level};
-ghost use Rattle.level_bounds.specs.Bounds.{plain_bounds, levels_left, IsAsked, HasNoLevelLeft};
+ghost use Rattle.level_search.specs.Bounds.{plain_bounds, levels_left, IsAsked, HasNoLevelLeft};
 ghost use Rattle.proposed_answers.specs.Shares.{level_share};
 ghost use Rattle.proposed_answers.specs.Values.{top_value, IsLevelAnswer, AreValueBounds};
 
 use crate::share::level_share;
 use bin_knapsack::decide_value;
 use box_instances::{Instance, NoMemory};
-use level_bounds::{Bounds, Level};
+use level_search::{Bounds, Level};
 use set_search::SetSearch;
 use std::alloc::Global;
 use std::sync::Wait;

@@ -1,10 +1,9 @@
 //! Reduced documents that stand in memory, and the audit of each.
-use check_terms::RefuseCode;
 use document_check::{Audit, audit_document};
-use document_terms::Claim;
 use std::alloc::Global;
 use std::test::Fail;
-use verdict_terms::{Heading, Reason};
+use text_terms::Claim;
+use verdict_terms::{Heading, Reason, RefuseCode};
 
 // The most bytes that an audit takes.
 const MOST_BYTES: usize = 1_099_511_627_776;

@@ -14,12 +14,12 @@ use Rattle.packing_terms.specs.Tokens.PlainToken.{Apart, Order, Rules, TooLarge,
 use Rattle.packing_terms.specs.Tokens.PlainToken.{ValueShort, GlobalScales}
 use Rattle.packing_terms.specs.Refutation.{exclusion_in_text as exclusion_of, IsNamed, MaySplitApart, MaySplitOrder}
 use Rattle.packing_terms.specs.Feeding.{children}
-use Rattle.rule_terms.specs.Places.{HasNoEmptyMask}
-use Rattle.rule_terms.specs.Steps.{with_exclusion}
+use Rattle.packing_terms.specs.Places.{HasNoEmptyMask}
+use Rattle.packing_terms.specs.Steps.{with_exclusion}
 use Rattle.edge_state.specs.Edges.{oldest}
 use Rattle.edge_state.proofs.Kept.{with_new, with_old}
-use Rattle.check_terms.proofs.Judged.{inner_exact}
-use Rattle.closure_terms.specs.Ends.{IsClosureOf}
+use Rattle.verdict_terms.proofs.Judged.{inner_exact}
+use Rattle.edge_state.specs.Ends.{IsClosureOf}
 use Rattle.refutation_check.specs.declared.node.OpenNode.{OpenNode}
 use Rattle.refutation_check.specs.Nodes.{entered, node_exclusions, Stands, above, opens, all_relations, AreHeld}
 use Rattle.refutation_check.specs.Nodes.{splits_with, splits_after, child_nodes, is_split, IsJudged}

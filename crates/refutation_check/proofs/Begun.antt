@@ -10,7 +10,7 @@ use Rattle.packing_terms.specs.Packing.{PlainInstance, no_box, dims, box_count}
 use Rattle.packing_terms.specs.Goals.{subset, IsBoxSet}
 use Rattle.packing_terms.specs.Exclusions.{excludes, IsEdge, IsEdgeAmong, AreAtEdges}
 use Rattle.packing_terms.specs.Closure.{Derives}
-use Rattle.rule_terms.proofs.Steps.{few_open}
+use Rattle.packing_terms.proofs.Steps.{few_open}
 use Rattle.box_instances.specs.Sets.{PlainBoxSet, all_boxes}
 use Rattle.box_instances.proofs.BoxSets.{set_few}
 use Rattle.edge_state.specs.Edges.{PlainEdges, oldest}

@@ -14,14 +14,14 @@ use Rattle.packing_terms.specs.Packing.{PlainInstance, dims, box_count, side}
 use Rattle.packing_terms.specs.Exclusions.{Exclusions, excludes}
 use Rattle.packing_terms.proofs.Members.{all_at}
 use Rattle.packing_terms.proofs.Boxes.{each_from}
-use Rattle.rule_terms.specs.Applied.{Extends}
+use Rattle.packing_terms.specs.Applied.{Extends}
 use Rattle.edge_state.specs.Edges.{oldest}
 use Rattle.edge_state.proofs.Oldest.{oldest_more}
-use Rattle.check_terms.specs.declared.answers.RefuseCode.{RefuseCode}
-use Rattle.check_terms.specs.Judging.{names_dim, names_box, closed}
-use Rattle.check_terms.proofs.Judged.{within}
-use Rattle.family_terms.specs.Families.{IsBoxNo, family_length}
-use Rattle.family_terms.specs.FamilyJudging.{is_beside, are_aside, may_join, boxes_refusal}
+use Rattle.verdict_terms.specs.declared.check_answers.RefuseCode.{RefuseCode}
+use Rattle.verdict_terms.specs.Judging.{names_dim, names_box, closed}
+use Rattle.verdict_terms.proofs.Judged.{within}
+use Rattle.verdict_terms.specs.Families.{IsBoxNo, family_length}
+use Rattle.verdict_terms.specs.FamilyJudging.{is_beside, are_aside, may_join, boxes_refusal}
 use Rattle.refutation_check.specs.declared.node.OpenNode.{OpenNode}
 use Rattle.refutation_check.specs.Ended.{IsEnded}
 use Rattle.refutation_check.specs.Nodes.{entered, node_exclusions, Stands}

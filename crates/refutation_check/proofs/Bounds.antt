@@ -14,11 +14,11 @@ use Rattle.packing_terms.specs.Relations.{mirror}
 use Rattle.packing_terms.specs.Exclusions.{excludes, is_of, is_at, is_same_rel, IsEdge, exclusion_at}
 use Rattle.packing_terms.proofs.Sets.{of_own}
 use Rattle.packing_terms.proofs.Members.{IsIn, in_filter, range_in}
-use Rattle.rule_terms.specs.Places.{HasNoEmptyMask}
-use Rattle.rule_terms.specs.Rounds.{rels}
+use Rattle.packing_terms.specs.Places.{HasNoEmptyMask}
+use Rattle.packing_terms.specs.Rounds.{rels}
 use Rattle.packing_terms.specs.Sums.{below}
-use Rattle.rule_terms.specs.Steps.{with_exclusion}
-use Rattle.rule_terms.proofs.Steps.{fewer_open, open_mirrored}
+use Rattle.packing_terms.specs.Steps.{with_exclusion}
+use Rattle.packing_terms.proofs.Steps.{fewer_open, open_mirrored}
 use Rattle.edge_state.proofs.Kept.{with_new, with_old}
 use Rattle.refutation_check.specs.Nodes.{opens}
 

@@ -5,11 +5,11 @@ use Rattle.packing_terms.specs.declared.Exclusion.{Exclusion}
 use Rattle.packing_terms.specs.Packing.{PlainInstance}
 use Rattle.packing_terms.specs.Exclusions.{Exclusions, excludes}
 use Rattle.packing_terms.specs.Closure.{Derives, IsStable}
-use Rattle.rule_terms.specs.Applied.{Extends}
-use Rattle.rule_terms.specs.Places.{HasNoEmptyMask}
-use Rattle.closure_terms.specs.States.{HasEmptyMask}
-use Rattle.closure_terms.specs.Ends.{IsClosureOf}
-use Rattle.closure_terms.proofs.Ends.{ended_closure, ended_conflict}
+use Rattle.packing_terms.specs.Applied.{Extends}
+use Rattle.packing_terms.specs.Places.{HasNoEmptyMask}
+use Rattle.edge_state.specs.States.{HasEmptyMask}
+use Rattle.edge_state.specs.Ends.{IsClosureOf}
+use Rattle.edge_state.proofs.Ends.{ended_closure, ended_conflict}
 use Rattle.refutation_check.specs.Ended.{IsEnded}
 
 pub ended : (instance : PlainInstance) (E : Exclusions) (old new : List Exclusion) (conflict : Bool)

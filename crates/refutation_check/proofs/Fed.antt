@@ -7,10 +7,10 @@ use Rattle.packing_terms.specs.Packing.{PlainInstance, dims, box_count}
 use Rattle.packing_terms.specs.Tokens.{PlainToken}
 use Rattle.packing_terms.specs.Feeding.{children}
 use Rattle.edge_state.specs.Edges.{PlainEdges, oldest}
-use Rattle.check_terms.specs.declared.answers.RefuseCode.{RefuseCode}
-use Rattle.check_terms.specs.declared.answers.FeedVerdict.TheVariants.{More, Done}
-use Rattle.check_terms.specs.Judging.{refusal}
-use Rattle.check_terms.specs.Checking.{Checked, checked_after, checked_by, inner_after, left_by, answered_by}
+use Rattle.verdict_terms.specs.declared.check_answers.RefuseCode.{RefuseCode}
+use Rattle.verdict_terms.specs.declared.check_answers.FeedVerdict.TheVariants.{More, Done}
+use Rattle.verdict_terms.specs.Judging.{refusal}
+use Rattle.verdict_terms.specs.Checking.{Checked, checked_after, checked_by, inner_after, left_by, answered_by}
 use Rattle.refutation_check.specs.declared.node.OpenNode.{OpenNode}
 use Rattle.refutation_check.specs.Nodes.{Stands, IsReady, IsOver, AreHeld}
 

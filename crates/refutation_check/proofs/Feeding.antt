@@ -12,10 +12,10 @@ use Rattle.packing_terms.specs.Tokens.PlainToken.{Apart, Order, Rules, TooLarge,
 use Rattle.packing_terms.specs.Tokens.PlainToken.{ValueShort, GlobalScales}
 use Rattle.edge_state.specs.Edges.{PlainEdges}
 use Rattle.edge_state.proofs.Kept.{product_less, less_room}
-use Rattle.check_terms.specs.declared.answers.RefuseCode.{RefuseCode}
-use Rattle.check_terms.specs.declared.answers.FeedVerdict.TheVariants.{More, Done}
-use Rattle.check_terms.specs.Judging.{refusal}
-use Rattle.check_terms.specs.Checking.{Checked, checked_after, inner_after, answered_by}
+use Rattle.verdict_terms.specs.declared.check_answers.RefuseCode.{RefuseCode}
+use Rattle.verdict_terms.specs.declared.check_answers.FeedVerdict.TheVariants.{More, Done}
+use Rattle.verdict_terms.specs.Judging.{refusal}
+use Rattle.verdict_terms.specs.Checking.{Checked, checked_after, inner_after, answered_by}
 use Rattle.refutation_check.specs.declared.node.OpenNode.{OpenNode}
 use Rattle.rule_passes.specs.Rooms.{PlainPropagator}
 use Rattle.refutation_check.specs.Nodes.{node_exclusions, above, all_relations, IsOver, AreHeld, splits_after}

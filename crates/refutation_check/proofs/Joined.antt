@@ -7,9 +7,9 @@ use Rattle.packing_terms.specs.declared.Exclusion.{Exclusion}
 use Rattle.packing_terms.specs.Packing.{PlainInstance, dims}
 use Rattle.packing_terms.specs.Goals.{subset}
 use Rattle.edge_state.specs.Edges.{PlainEdges}
-use Rattle.check_terms.specs.declared.answers.RefuseCode.{RefuseCode}
+use Rattle.verdict_terms.specs.declared.check_answers.RefuseCode.{RefuseCode}
 use Rattle.rule_passes.specs.Rooms.{PlainPropagator}
-use Rattle.family_terms.specs.Families.{is_too_long}
+use Rattle.verdict_terms.specs.Families.{is_too_long}
 use Rattle.refutation_check.specs.declared.node.OpenNode.{OpenNode}
 use Rattle.refutation_check.specs.Nodes.{above, AreHeld}
 use Rattle.refutation_check.specs.Refuters.{PlainRefuter, nodes_of, IsHeld}

@@ -10,14 +10,14 @@ use Rattle.packing_terms.specs.Packing.{PlainInstance}
 use Rattle.packing_terms.specs.Exclusions.{excludes}
 use Rattle.packing_terms.specs.Tokens.{PlainToken}
 use Rattle.packing_terms.proofs.Sets.{same_bool}
-use Rattle.rule_terms.specs.Applied.{Extends}
+use Rattle.packing_terms.specs.Applied.{Extends}
 use Rattle.edge_state.specs.Edges.{oldest}
-use Rattle.rule_terms.proofs.RoundsLemmas.{closure_is}
-use Rattle.rule_terms.proofs.Conflicts.{calm, stormy}
+use Rattle.packing_terms.proofs.RoundsLemmas.{closure_is}
+use Rattle.packing_terms.proofs.Conflicts.{calm, stormy}
 use Rattle.relation_table.specs.Masks.{mask_has}
-use Rattle.check_terms.specs.declared.answers.RefuseCode.{RefuseCode}
-use Rattle.check_terms.specs.Judging.{closed, is_conflict, may_part, may_order, refusal}
-use Rattle.closure_terms.specs.Ends.{IsClosureOf}
+use Rattle.verdict_terms.specs.declared.check_answers.RefuseCode.{RefuseCode}
+use Rattle.verdict_terms.specs.Judging.{closed, is_conflict, may_part, may_order, refusal}
+use Rattle.edge_state.specs.Ends.{IsClosureOf}
 use Rattle.refutation_check.specs.Ended.{IsEnded}
 use Rattle.refutation_check.specs.declared.node.OpenNode.{OpenNode}
 use Rattle.refutation_check.specs.Nodes.{entered, node_exclusions, Stands, is_split, IsJudged}

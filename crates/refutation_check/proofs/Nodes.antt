@@ -10,9 +10,9 @@ use Rattle.packing_terms.specs.Exclusions.{excludes, is_of}
 use Rattle.packing_terms.specs.Closure.{IsDerived, Derives, IsSubset, IsStable}
 use Rattle.packing_terms.proofs.Sets.{of_own, or_true, excludes_symmetric, excludes_rest}
 use Rattle.packing_terms.proofs.Closures.{derives_from, given_derived}
-use Rattle.rule_terms.specs.Places.{HasNoEmptyMask}
-use Rattle.rule_terms.specs.Steps.{with_exclusion}
-use Rattle.rule_terms.proofs.Applied.{with_keeps, with_own}
+use Rattle.packing_terms.specs.Places.{HasNoEmptyMask}
+use Rattle.packing_terms.specs.Steps.{with_exclusion}
+use Rattle.packing_terms.proofs.Applied.{with_keeps, with_own}
 use Rattle.edge_state.specs.Edges.{PlainEdges, oldest}
 use Rattle.edge_state.proofs.Oldest.{oldest_more, oldest_count, oldest_twice}
 use Rattle.edge_state.proofs.Kept.{with_new, with_old, with_more}

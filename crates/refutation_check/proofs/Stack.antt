@@ -9,7 +9,7 @@ use Rattle.packing_terms.specs.Packing.{PlainInstance, dims, box_count}
 use Rattle.packing_terms.specs.Exclusions.{excludes}
 use Rattle.edge_state.proofs.Oldest.{oldest_all}
 use Rattle.edge_state.specs.Edges.{oldest}
-use Rattle.closure_terms.specs.Ends.{IsClosureOf}
+use Rattle.edge_state.specs.Ends.{IsClosureOf}
 use Rattle.refutation_check.specs.declared.node.OpenNode.{OpenNode}
 use Rattle.refutation_check.specs.Nodes.{some_of, with_some, entered, node_exclusions, Stands, IsAtAmong, above, opens}
 use Rattle.refutation_check.specs.Nodes.{all_relations, IsHeldNode, AreHeld, splits_with}

@@ -5,10 +5,10 @@ use Rattle.packing_terms.specs.declared.Exclusion.{Exclusion}
 use Rattle.packing_terms.specs.Packing.{PlainInstance, no_box, box_count}
 use Rattle.packing_terms.specs.Goals.{subset}
 use Rattle.box_instances.specs.Sets.{all_boxes}
-use Rattle.check_terms.specs.declared.answers.RefuseCode.{RefuseCode}
-use Rattle.check_terms.specs.declared.answers.FeedVerdict.{FeedVerdict}
-use Rattle.check_terms.specs.declared.answers.FeedVerdict.TheVariants.{More, Done, Refused}
-use Rattle.check_terms.specs.Checking.{Checked, checked_by, answered}
+use Rattle.verdict_terms.specs.declared.check_answers.RefuseCode.{RefuseCode}
+use Rattle.verdict_terms.specs.declared.check_answers.FeedVerdict.{FeedVerdict}
+use Rattle.verdict_terms.specs.declared.check_answers.FeedVerdict.TheVariants.{More, Done, Refused}
+use Rattle.verdict_terms.specs.Checking.{Checked, checked_by, answered}
 
 -- the set of all boxes has the instance itself
 pub whole_set : (instance : PlainInstance) → subset instance (all_boxes instance) ≡ instance

@@ -3,7 +3,7 @@ use Rattle.std.specs.Prelude.{List, Bool, true, false}
 use Rattle.packing_terms.specs.declared.Exclusion.{Exclusion}
 use Rattle.packing_terms.specs.Packing.{PlainInstance}
 use Rattle.packing_terms.specs.Exclusions.{Exclusions}
-use Rattle.closure_terms.specs.Ends.{IsClosureOf, IsConflictOf}
+use Rattle.edge_state.specs.Ends.{IsClosureOf, IsConflictOf}
 
 -- the closure of E has a conflict where the flag is true, and else the list is exactly that closure
 abbrev pub IsEnded : PlainInstance → Exclusions → List Exclusion → Bool → Type 0

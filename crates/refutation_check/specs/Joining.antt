@@ -5,11 +5,11 @@ use Rattle.packing_terms.specs.declared.Exclusion.{Exclusion}
 use Rattle.packing_terms.specs.Packing.{PlainInstance, dims}
 use Rattle.packing_terms.specs.Goals.{subset}
 use Rattle.edge_state.specs.Edges.{oldest}
-use Rattle.check_terms.specs.declared.answers.RefuseCode.{RefuseCode}
-use Rattle.check_terms.specs.declared.answers.RefuseCode.TheVariants.{After}
-use Rattle.check_terms.specs.Checking.{Checked}
-use Rattle.family_terms.specs.Families.{IsBoxNo, is_too_long}
-use Rattle.family_terms.specs.FamilyJudging.{boxes_refusal}
+use Rattle.verdict_terms.specs.declared.check_answers.RefuseCode.{RefuseCode}
+use Rattle.verdict_terms.specs.declared.check_answers.RefuseCode.TheVariants.{After}
+use Rattle.verdict_terms.specs.Checking.{Checked}
+use Rattle.verdict_terms.specs.Families.{IsBoxNo, is_too_long}
+use Rattle.verdict_terms.specs.FamilyJudging.{boxes_refusal}
 use Rattle.refutation_check.specs.declared.node.OpenNode.{OpenNode}
 use Rattle.refutation_check.specs.Nodes.{node_exclusions, Stands}
 use Rattle.refutation_check.specs.Refuters.{PlainRefuter}

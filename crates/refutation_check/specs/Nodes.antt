@@ -12,12 +12,12 @@ use Rattle.packing_terms.specs.Closure.{IsStable, Derives}
 use Rattle.packing_terms.specs.Tokens.{PlainToken}
 use Rattle.packing_terms.specs.Tokens.PlainToken.{Apart, Order}
 use Rattle.packing_terms.specs.Refutation.{exclusion_in_text as exclusion_of}
-use Rattle.rule_terms.specs.Places.{HasNoEmptyMask}
-use Rattle.rule_terms.specs.Steps.{open_count, with_exclusion}
+use Rattle.packing_terms.specs.Places.{HasNoEmptyMask}
+use Rattle.packing_terms.specs.Steps.{open_count, with_exclusion}
 use Rattle.edge_state.specs.Edges.{PlainEdges, oldest}
-use Rattle.check_terms.specs.declared.answers.RefuseCode.{RefuseCode}
-use Rattle.check_terms.specs.Judging.{refusal}
-use Rattle.closure_terms.specs.Ends.{IsClosureOf}
+use Rattle.verdict_terms.specs.declared.check_answers.RefuseCode.{RefuseCode}
+use Rattle.verdict_terms.specs.Judging.{refusal}
+use Rattle.edge_state.specs.Ends.{IsClosureOf}
 use Rattle.refutation_check.specs.declared.node.OpenNode.{OpenNode}
 
 -- an exclusion that may be there

@@ -5,7 +5,7 @@ use Rattle.packing_terms.specs.Packing.{PlainInstance, dims, box_count}
 use Rattle.packing_terms.specs.Goals.{subset}
 use Rattle.packing_terms.specs.Tokens.{PlainToken}
 use Rattle.edge_state.specs.Edges.{PlainEdges}
-use Rattle.check_terms.specs.Checking.{Checked, checked_after, inner_after}
+use Rattle.verdict_terms.specs.Checking.{Checked, checked_after, inner_after}
 use Rattle.refutation_check.specs.declared.node.OpenNode.{OpenNode}
 use Rattle.rule_passes.specs.Rooms.{PlainPropagator}
 use Rattle.refutation_check.specs.Nodes.{node_exclusions, above, all_relations, AreHeld}

@@ -3,8 +3,8 @@ ghost use Rattle.std.specs.Prelude.{◌≡◌, ◌≤◌, ◌-◌, length, drop}
 ghost use Rattle.packing_terms.specs.Packing.{dims, box_count};
 ghost use Rattle.packing_terms.specs.Exclusions.{Exclusions, excludes};
 ghost use Rattle.packing_terms.specs.Closure.{Derives, IsStable};
-ghost use Rattle.rule_terms.specs.Applied.{Extends};
-ghost use Rattle.rule_terms.specs.Places.{HasNoEmptyMask};
+ghost use Rattle.packing_terms.specs.Applied.{Extends};
+ghost use Rattle.packing_terms.specs.Places.{HasNoEmptyMask};
 ghost use Rattle.edge_state.specs.Edges.{oldest};
 ghost use Rattle.refutation_check.specs.Ended.{IsEnded};
 

@@ -3,18 +3,18 @@ ghost use Rattle.std.specs.Prelude.{◌≡◌, ◌≤◌, ◌<◌, length, slice
 ghost use Rattle.std.specs.List.{list_all, All};
 ghost use Rattle.packing_terms.specs.Packing.{dims, box_count};
 ghost use Rattle.packing_terms.specs.Exclusions.{excludes};
-ghost use Rattle.check_terms.specs.Judging.{names_box};
-ghost use Rattle.family_terms.specs.Families.{family_length, is_too_long};
-ghost use Rattle.family_terms.specs.FamilyJudging.{is_beside, are_aside};
+ghost use Rattle.verdict_terms.specs.Judging.{names_box};
+ghost use Rattle.verdict_terms.specs.Families.{family_length, is_too_long};
+ghost use Rattle.verdict_terms.specs.FamilyJudging.{is_beside, are_aside};
 ghost use Rattle.refutation_check.specs.Nodes.{IsOver};
 ghost use Rattle.refutation_check.specs.Joining.{AreBoxNos, AreJoinable, AreTested};
 
 use crate::judging::{names_box, names_dim};
 use crate::node::{OpenNode, enter};
 use box_instances::Instance;
-use check_terms::RefuseCode;
 use edge_state::{EdgeState, Rel};
 use rule_passes::Propagator;
+use verdict_terms::RefuseCode;
 
 // Whether two boxes of the text are distinct, and apart in a dimension.
 fn is_beside(state: &EdgeState, dim: u32, u: u32, v: u32) -> bool

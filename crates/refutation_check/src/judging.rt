@@ -7,17 +7,17 @@ ghost use Rattle.packing_terms.specs.Limits.{max_boxes};
 ghost use Rattle.packing_terms.specs.Tokens.PlainToken.{Apart as PlainApart, Order as PlainOrder, Rules as PlainRules, TooLarge as PlainTooLarge};
 ghost use Rattle.relation_table.specs.Masks.{mask_has};
 ghost use Rattle.proof_tree.specs.Plain.{plain_token};
-ghost use Rattle.check_terms.specs.Judging.{names_dim, names_box, names_pair, are_legal, tuple_refusal, refusal};
+ghost use Rattle.verdict_terms.specs.Judging.{names_dim, names_box, names_pair, are_legal, tuple_refusal, refusal};
 ghost use Rattle.refutation_check.specs.Nodes.{IsOver, IsJudged};
 
 use crate::node::{OpenNode, enter};
 use box_instances::Instance;
-use check_terms::RefuseCode;
 use conservative_scales::{ScaleFn, exceeds, legal};
 use edge_state::{EdgeState, Rel};
 use proof_tree::Token;
 use relation_table::Mask;
 use rule_passes::Propagator;
+use verdict_terms::RefuseCode;
 
 /// Whether the number of a text names a dimension.
 pub(crate) fn names_dim(instance: &Instance, dim: u32) -> bool

@@ -10,6 +10,6 @@ mod judging;
 mod node;
 mod refuter;
 
-pub use check_terms::{FeedVerdict, RefuseCode};
 pub use judging::{are_legal, judge_tuple};
 pub use refuter::Refuter;
+pub use verdict_terms::{FeedVerdict, RefuseCode};

@@ -4,7 +4,7 @@ ghost use Rattle.std.specs.List.{All};
 ghost use Rattle.packing_terms.specs.declared.Exclusion.{Exclusion as PlainExclusion};
 ghost use Rattle.packing_terms.specs.Packing.{dims, box_count};
 ghost use Rattle.packing_terms.specs.Exclusions.{excludes, IsEdgeAmong};
-ghost use Rattle.rule_terms.specs.Applied.{Extends};
+ghost use Rattle.packing_terms.specs.Applied.{Extends};
 ghost use Rattle.edge_state.specs.Edges.{oldest};
 ghost use Rattle.refutation_check.specs.Ended.{IsEnded};
 ghost use Rattle.refutation_check.specs.Nodes.{with_each, with_some, IsAtAmong, entered, node_exclusions, Stands, IsOver};

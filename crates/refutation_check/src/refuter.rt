@@ -5,7 +5,7 @@ ghost use Rattle.packing_terms.specs.Goals.{subset, IsBoxSet};
 ghost use Rattle.packing_terms.specs.Limits.{IsDimCount, IsBoxCount};
 ghost use Rattle.box_instances.specs.Sets.{all_boxes};
 ghost use Rattle.proof_tree.specs.Plain.{plain_token};
-ghost use Rattle.check_terms.specs.Checking.{starting, answered, is_whole};
+ghost use Rattle.verdict_terms.specs.Checking.{starting, answered, is_whole};
 ghost use Rattle.refutation_check.specs.Refuters.{fed, most_nodes};
 ghost use Rattle.refutation_check.specs.Joining.{AreBoxNos, join_answer, checked_joined};
 
@@ -14,12 +14,12 @@ use crate::joining::{is_too_long, test_boxes};
 use crate::judging::judge;
 use crate::node::{OpenNode, exclude_each};
 use box_instances::{BoxSet, Instance, NoMemory};
-use check_terms::{FeedVerdict, RefuseCode};
 use edge_state::{EdgeState, Exclusion};
 use proof_tree::Token;
 use rule_passes::Propagator;
 use std::alloc::Global;
 use std::marker::Model;
+use verdict_terms::{FeedVerdict, RefuseCode};
 
 /// Checks a refutation of an instance, or of a set of its boxes, token by token. It takes all its
 /// memory when it is made.

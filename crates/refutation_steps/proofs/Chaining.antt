@@ -12,15 +12,15 @@ use Rattle.packing_terms.specs.Exclusions.{Exclusions, excludes, IsSurelyBefore}
 use Rattle.packing_terms.specs.Rules.{AreBoxesAmong, IsChain}
 use Rattle.packing_terms.proofs.Members.{IsIn, index_in, in_append}
 use Rattle.packing_terms.proofs.Boxes.{each_in, each_from, box_in}
-use Rattle.rule_terms.specs.declared.Direction.{Direction}
-use Rattle.rule_terms.specs.declared.Direction.TheVariants.{Forwards, Backwards}
-use Rattle.rule_terms.specs.Runs.{IsRun, HasRun, Leads, IsTransitive, AreHeaviestHeads, AreHeaviestTails}
-use Rattle.rule_terms.specs.Places.{HasNoEmptyMask}
+use Rattle.packing_terms.specs.declared.Direction.{Direction}
+use Rattle.packing_terms.specs.declared.Direction.TheVariants.{Forwards, Backwards}
+use Rattle.packing_terms.specs.Runs.{IsRun, HasRun, Leads, IsTransitive, AreHeaviestHeads, AreHeaviestTails}
+use Rattle.packing_terms.specs.Places.{HasNoEmptyMask}
 use Rattle.packing_terms.proofs.Sets.{excludes_symmetric}
-use Rattle.closure_terms.specs.States.{IsSized}
-use Rattle.rule_terms.proofs.Runs.{run_more}
-use Rattle.rule_terms.proofs.Turned.{turned, boxes_turned, sum_turned, run_of_tail, run_of_heaviest, one_way}
-use Rattle.rule_terms.proofs.Turned.{transitive_back}
+use Rattle.edge_state.specs.States.{IsSized}
+use Rattle.packing_terms.proofs.Runs.{run_more}
+use Rattle.packing_terms.proofs.Turned.{turned, boxes_turned, sum_turned, run_of_tail, run_of_heaviest, one_way}
+use Rattle.packing_terms.proofs.Turned.{transitive_back}
 use Rattle.edge_state.specs.Edges.{PlainEdges}
 use Rattle.refutation_steps.specs.Chains.{AreWeighed, IsNextBox, IsNoNextBox, IsRunPushed, IsChainTo, IsChainFrom}
 

@@ -18,15 +18,15 @@ use Rattle.packing_terms.specs.Refutation.{IsTooLarge, MaySplitApart, MaySplitOr
 use Rattle.packing_terms.proofs.Sets.{excludes_first, excludes_rest, or_true, excludes_symmetric}
 use Rattle.packing_terms.proofs.Closures.{derives_from, given_derived}
 use Rattle.packing_terms.proofs.Derivations.{stable_holds}
-use Rattle.rule_terms.specs.Steps.{with_exclusion}
-use Rattle.rule_terms.specs.Applied.{Extends}
-use Rattle.rule_terms.specs.Places.{HasNoEmptyMask}
-use Rattle.rule_terms.proofs.Applied.{with_cases}
+use Rattle.packing_terms.specs.Steps.{with_exclusion}
+use Rattle.packing_terms.specs.Applied.{Extends}
+use Rattle.packing_terms.specs.Places.{HasNoEmptyMask}
+use Rattle.packing_terms.proofs.Applied.{with_cases}
 use Rattle.edge_state.specs.Edges.{oldest}
 use Rattle.edge_state.proofs.Oldest.{oldest_grown, oldest_all}
-use Rattle.closure_terms.specs.States.{HasEmptyMask}
-use Rattle.explained_terms.specs.Explaining.{MayPart, MayOrder}
-use Rattle.explained_terms.proofs.Stepped.{child_there, child_derived}
+use Rattle.edge_state.specs.States.{HasEmptyMask}
+use Rattle.verdict_terms.specs.Explaining.{MayPart, MayOrder}
+use Rattle.verdict_terms.proofs.Stepped.{child_there, child_derived}
 use Rattle.line_proofs.specs.Boxed.{Grows}
 use Rattle.line_proofs.proofs.ChainBoxes.{grows_with}
 use Rattle.refutation_steps.specs.Nodes.{IsClosedAt, IsEnd, IsDrawn}

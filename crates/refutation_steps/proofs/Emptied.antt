@@ -7,8 +7,8 @@ use Rattle.packing_terms.specs.declared.Exclusion.{Exclusion}
 use Rattle.packing_terms.specs.Packing.{PlainInstance, dims, box_count}
 use Rattle.packing_terms.specs.Relations.{mirror}
 use Rattle.packing_terms.specs.Exclusions.{Exclusions, excludes}
-use Rattle.rule_terms.specs.Places.{HasNoEmptyMask}
-use Rattle.rule_terms.proofs.Steps.{open_mirrored}
+use Rattle.packing_terms.specs.Places.{HasNoEmptyMask}
+use Rattle.packing_terms.proofs.Steps.{open_mirrored}
 use Rattle.refutation_steps.specs.Empties.{IsLeft, IsEmptyAt}
 
 pub left_there : (has m x : Bool) → has ≡ m → m ≡ not x → has ≡ true → x ≡ false

@@ -7,12 +7,12 @@ use Rattle.packing_terms.specs.Packing.{PlainInstance}
 use Rattle.packing_terms.specs.Exclusions.{Exclusions, excludes}
 use Rattle.packing_terms.specs.Closure.{IsDerivation, IsSubset, IsStable}
 use Rattle.packing_terms.proofs.Sets.{excludes_first, excludes_rest}
-use Rattle.rule_terms.specs.Applied.{Extends}
-use Rattle.rule_terms.specs.Places.{HasNoEmptyMask}
+use Rattle.packing_terms.specs.Applied.{Extends}
+use Rattle.packing_terms.specs.Places.{HasNoEmptyMask}
 use Rattle.edge_state.specs.Edges.{PlainEdges, oldest}
 use Rattle.edge_state.proofs.Oldest.{oldest_grown, oldest_all}
-use Rattle.closure_terms.specs.Ends.{IsClosureOf, IsConflictOf}
-use Rattle.explained_terms.specs.Steps.{PlainStep}
+use Rattle.edge_state.specs.Ends.{IsClosureOf, IsConflictOf}
+use Rattle.verdict_terms.specs.Steps.{PlainStep}
 use Rattle.refutation_steps.specs.Replays.{IsReplayed}
 use Rattle.refutation_steps.specs.Nodes.{IsSettled}
 

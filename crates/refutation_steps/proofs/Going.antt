@@ -7,14 +7,14 @@ use Rattle.packing_terms.specs.Packing.{PlainInstance, dims, box_count}
 use Rattle.packing_terms.specs.Exclusions.{excludes}
 use Rattle.packing_terms.specs.Rules.{Rule, AreBoxesAmong, IsRuleInstance, dim_of, first_of, second_of}
 use Rattle.packing_terms.specs.Closure.{IsSubset}
-use Rattle.rule_terms.specs.Applied.{added}
+use Rattle.packing_terms.specs.Applied.{added}
 use Rattle.edge_state.specs.Edges.{PlainEdges}
-use Rattle.explained_terms.specs.Steps.{PlainStep, lines_of}
-use Rattle.explained_terms.specs.Explaining.{after_rule}
-use Rattle.explained_terms.specs.Stepping.{lines_of_all}
-use Rattle.explained_terms.proofs.Leaves.{applied, step_by, step_changes}
-use Rattle.explained_terms.proofs.Tests.{premises_test, premises_from}
-use Rattle.explained_terms.proofs.Stepped.{steps_then, steps_keep}
+use Rattle.verdict_terms.specs.Steps.{PlainStep, lines_of}
+use Rattle.verdict_terms.specs.Explaining.{after_rule}
+use Rattle.verdict_terms.specs.Stepping.{lines_of_all}
+use Rattle.verdict_terms.proofs.Leaves.{applied, step_by, step_changes}
+use Rattle.verdict_terms.proofs.Tests.{premises_test, premises_from}
+use Rattle.verdict_terms.proofs.Stepped.{steps_then, steps_keep}
 use Rattle.line_proofs.specs.Taken.{IsRuleTaken}
 use Rattle.refutation_steps.specs.Goes.{Goes, IsThere, Gives, IsTried, IsStepped}
 

@@ -7,16 +7,16 @@ use Rattle.packing_terms.specs.declared.Exclusion.{Exclusion}
 use Rattle.packing_terms.specs.Packing.{PlainInstance, dims, box_count, container_side}
 use Rattle.packing_terms.specs.Exclusions.{Exclusions, excludes, exclusion_at}
 use Rattle.packing_terms.specs.Rules.{Rule, Pair, Apart, Triple, Chain, Compose, Cycle, Order}
-use Rattle.rule_terms.specs.declared.Direction.TheVariants.{Forwards, Backwards}
-use Rattle.rule_terms.specs.Steps.{with_exclusion}
-use Rattle.rule_terms.specs.Places.{HasNoEmptyMask}
-use Rattle.rule_terms.proofs.Applied.{with_own}
-use Rattle.rule_terms.proofs.Turned.{head_of, tail_of}
+use Rattle.packing_terms.specs.declared.Direction.TheVariants.{Forwards, Backwards}
+use Rattle.packing_terms.specs.Steps.{with_exclusion}
+use Rattle.packing_terms.specs.Places.{HasNoEmptyMask}
+use Rattle.packing_terms.proofs.Applied.{with_own}
+use Rattle.packing_terms.proofs.Turned.{head_of, tail_of}
 use Rattle.edge_state.specs.Edges.{PlainEdges}
-use Rattle.closure_terms.specs.States.{HasEmptyMask}
-use Rattle.explained_terms.specs.Steps.{PlainStep, lines_of, box_lines}
-use Rattle.explained_terms.specs.Steps.PlainStep.{Chain as ChainLine}
-use Rattle.explained_terms.specs.Explaining.{IsStep}
+use Rattle.edge_state.specs.States.{HasEmptyMask}
+use Rattle.verdict_terms.specs.Steps.{PlainStep, lines_of, box_lines}
+use Rattle.verdict_terms.specs.Steps.PlainStep.{Chain as ChainLine}
+use Rattle.verdict_terms.specs.Explaining.{IsStep}
 use Rattle.refutation_steps.specs.Goes.{Goes, Gives}
 use Rattle.refutation_steps.specs.Places.{IsPlaced, IsSought}
 use Rattle.refutation_steps.specs.Replays.{IsChainRule}

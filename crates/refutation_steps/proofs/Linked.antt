@@ -9,14 +9,14 @@ use Rattle.packing_terms.specs.Packing.{PlainInstance, dims, box_count}
 use Rattle.packing_terms.specs.Relations.{allows}
 use Rattle.packing_terms.specs.Exclusions.{Exclusions, excludes, exclusion_at, IsSurelyBefore}
 use Rattle.packing_terms.specs.Rules.{Rule, Compose, AreBoxesAmong}
-use Rattle.rule_terms.specs.Rounds.{is_surely_before}
-use Rattle.rule_terms.specs.Runs.{IsTransitive}
+use Rattle.packing_terms.specs.Rounds.{is_surely_before}
+use Rattle.packing_terms.specs.Runs.{IsTransitive}
 use Rattle.edge_state.specs.Edges.{PlainEdges}
-use Rattle.explained_terms.specs.Steps.{PlainStep}
-use Rattle.explained_terms.specs.Explaining.{IsStep, after_rule}
-use Rattle.explained_terms.specs.Stepping.{StepsTo}
-use Rattle.explained_terms.specs.Kept.{opens}
-use Rattle.explained_terms.proofs.Leaves.{applied, step_changes}
+use Rattle.verdict_terms.specs.Steps.{PlainStep}
+use Rattle.verdict_terms.specs.Explaining.{IsStep, after_rule}
+use Rattle.verdict_terms.specs.Stepping.{StepsTo}
+use Rattle.verdict_terms.specs.Kept.{opens}
+use Rattle.verdict_terms.proofs.Leaves.{applied, step_changes}
 use Rattle.refutation_steps.specs.Goes.{Goes, Gives, IsStepped}
 use Rattle.refutation_steps.specs.Links.{IsLinkedAt, IsLinkTry}
 use Rattle.refutation_steps.proofs.Going.{goes_nowhere, goes_on}

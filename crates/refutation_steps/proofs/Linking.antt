@@ -4,8 +4,8 @@ use Rattle.packing_terms.specs.Packing.{PlainInstance, dims, box_count}
 use Rattle.packing_terms.specs.Exclusions.{IsEdgeAmong}
 use Rattle.packing_terms.specs.Rules.{AreBoxesAmong}
 use Rattle.edge_state.specs.Edges.{PlainEdges}
-use Rattle.closure_terms.specs.States.{IsSized}
-use Rattle.explained_terms.specs.Steps.{PlainStep}
+use Rattle.edge_state.specs.States.{IsSized}
+use Rattle.verdict_terms.specs.Steps.{PlainStep}
 use Rattle.refutation_steps.specs.Goes.{Goes}
 
 module _ (instance : PlainInstance) (s : PlainEdges) (i : ℕ) where

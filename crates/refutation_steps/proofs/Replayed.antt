@@ -14,7 +14,7 @@ use Rattle.packing_terms.proofs.Sets.{mirror_twice, excludes_symmetric, own_firs
 use Rattle.packing_terms.proofs.Monotone.{follows_more}
 use Rattle.edge_state.specs.Edges.{PlainEdges, oldest}
 use Rattle.edge_state.specs.Answers.{IsChangeAfter}
-use Rattle.explained_terms.specs.Steps.{PlainStep}
+use Rattle.verdict_terms.specs.Steps.{PlainStep}
 use Rattle.refutation_steps.specs.Goes.{Goes, IsThere, Gives}
 use Rattle.refutation_steps.specs.Places.{IsPlaced, IsSought, IsPlain}
 use Rattle.refutation_steps.specs.Replays.{turned_of, IsPlainSought, IsChainRule, AreChainsTried, IsMade, IsReplayed}

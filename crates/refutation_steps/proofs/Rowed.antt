@@ -4,10 +4,10 @@ use Rattle.std.proofs.Common.{Bool}
 use Rattle.std.proofs.lemmas.Bool.{true≢false, and_parts, and_from}
 use Rattle.packing_terms.specs.declared.Rel.TheVariants.{Before}
 use Rattle.packing_terms.specs.Exclusions.{Exclusions, IsSurelyBefore}
-use Rattle.rule_terms.specs.Rounds.{is_surely_before}
+use Rattle.packing_terms.specs.Rounds.{is_surely_before}
 use Rattle.edge_state.specs.Edges.{is_other_box}
 use Rattle.edge_state.proofs.Kept.{row_open, row_shut}
-use Rattle.closure_terms.proofs.Filters.{minus_off}
+use Rattle.edge_state.proofs.Filters.{minus_off}
 
 -- in one of two rows: one of two is open
 pub either_open : (o p q a b e : Bool) → a ≡ o && not p → b ≡ o && not q → e ≡ a || b → e ≡ o && not (p && q)

@@ -9,7 +9,7 @@ use Rattle.packing_terms.specs.Rules.{Rule, IsRuleInstance}
 use Rattle.packing_terms.specs.Rules.Rule.{Pair, Apart, Triple, Chain, Compose, Cycle, Order}
 use Rattle.packing_terms.proofs.Monotone.{premises_more, concludes_more}
 use Rattle.edge_state.specs.Edges.{PlainEdges}
-use Rattle.explained_terms.specs.Steps.{PlainStep}
+use Rattle.verdict_terms.specs.Steps.{PlainStep}
 use Rattle.refutation_steps.specs.Goes.{Goes, IsThere, Gives, IsStepped}
 use Rattle.refutation_steps.specs.Places.{IsPlaced, IsSought, IsPlain}
 use Rattle.refutation_steps.proofs.Going.{goes_nowhere, goes_on, goes_keeps}

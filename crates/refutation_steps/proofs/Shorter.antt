@@ -5,14 +5,14 @@ use Rattle.std.proofs.lemmas.Bool.{true≢false}
 use Rattle.packing_terms.specs.Packing.{PlainInstance}
 use Rattle.packing_terms.specs.Results.{◌>>=◌}
 use Rattle.packing_terms.specs.Tokens.{PlainToken}
-use Rattle.explained_terms.specs.declared.answers.AuditCode.{AuditCode}
-use Rattle.explained_terms.specs.Steps.{PlainStep, tokens_among}
-use Rattle.explained_terms.specs.Explaining.{Explains}
-use Rattle.explained_terms.specs.Judging.{AuditNode, at_rest}
-use Rattle.explained_terms.specs.Auditing.{Audited, audited_after, audited_after_all, audited_by, audited_with}
-use Rattle.explained_terms.specs.Auditing.{is_whole, starting}
-use Rattle.explained_terms.proofs.Stepped.{tokens_joined}
-use Rattle.explained_terms.proofs.Explained.{fed_explains}
+use Rattle.verdict_terms.specs.declared.explained_answers.AuditCode.{AuditCode}
+use Rattle.verdict_terms.specs.Steps.{PlainStep, tokens_among}
+use Rattle.verdict_terms.specs.Explaining.{Explains}
+use Rattle.verdict_terms.specs.ExplainedJudging.{AuditNode, at_rest}
+use Rattle.verdict_terms.specs.Auditing.{Audited, audited_after, audited_after_all, audited_by, audited_with}
+use Rattle.verdict_terms.specs.Auditing.{is_whole, starting}
+use Rattle.verdict_terms.proofs.Stepped.{tokens_joined}
+use Rattle.verdict_terms.proofs.Explained.{fed_explains}
 use Rattle.refutation_steps.specs.Shortened.{IsNoToken}
 
 -- ---- lines, one after another

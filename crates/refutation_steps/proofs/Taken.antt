@@ -11,13 +11,13 @@ use Rattle.packing_terms.specs.declared.ScaleFn.{ScaleFn}
 use Rattle.packing_terms.specs.Tokens.{PlainToken}
 use Rattle.packing_terms.specs.Tokens.PlainToken.{Apart, Order, Rules, TooLarge, Scales}
 use Rattle.packing_terms.specs.Refutation.{exclusion_in_text, IsTooLarge, IsNamed}
-use Rattle.rule_terms.specs.Applied.{Extends}
-use Rattle.rule_terms.specs.Places.{HasNoEmptyMask}
+use Rattle.packing_terms.specs.Applied.{Extends}
+use Rattle.packing_terms.specs.Places.{HasNoEmptyMask}
 use Rattle.edge_state.specs.Edges.{PlainEdges}
-use Rattle.explained_terms.specs.Steps.{PlainStep, tokens_among}
-use Rattle.explained_terms.specs.Steps.PlainStep.{Clash, Plain}
-use Rattle.explained_terms.specs.Explaining.{Explains, by_side, by_scales}
-use Rattle.explained_terms.proofs.Stepped.{steps_derived, tokens_joined}
+use Rattle.verdict_terms.specs.Steps.{PlainStep, tokens_among}
+use Rattle.verdict_terms.specs.Steps.PlainStep.{Clash, Plain}
+use Rattle.verdict_terms.specs.Explaining.{Explains, by_side, by_scales}
+use Rattle.verdict_terms.proofs.Stepped.{steps_derived, tokens_joined}
 use Rattle.refutation_steps.specs.declared.empties.Place.{Place}
 use Rattle.refutation_steps.specs.declared.walk_state.Walk.{Walk}
 use Rattle.refutation_steps.specs.Empties.{IsEmptyPlace}

@@ -6,11 +6,11 @@ use Rattle.packing_terms.specs.declared.Exclusion.{Exclusion}
 use Rattle.packing_terms.specs.Packing.{PlainInstance, dims, box_count}
 use Rattle.packing_terms.specs.Exclusions.{excludes}
 use Rattle.packing_terms.specs.Closure.{IsStable}
-use Rattle.rule_terms.specs.Applied.{Extends}
-use Rattle.rule_terms.specs.Places.{HasNoEmptyMask}
+use Rattle.packing_terms.specs.Applied.{Extends}
+use Rattle.packing_terms.specs.Places.{HasNoEmptyMask}
 use Rattle.edge_state.specs.Edges.{PlainEdges, oldest}
 use Rattle.edge_state.proofs.Oldest.{oldest_grown, oldest_all, oldest_count}
-use Rattle.closure_terms.specs.Ends.{IsClosureOf}
+use Rattle.edge_state.specs.Ends.{IsClosureOf}
 use Rattle.line_proofs.specs.Boxed.{Grows}
 use Rattle.line_proofs.proofs.Lined.{grows_none, grows_then}
 use Rattle.line_proofs.proofs.ChainBoxes.{grows_with}

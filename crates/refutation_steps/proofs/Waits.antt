@@ -10,16 +10,16 @@ use Rattle.packing_terms.specs.Rules.{Rule}
 use Rattle.packing_terms.specs.Tokens.{PlainToken}
 use Rattle.packing_terms.specs.Tokens.PlainToken.{Apart, Order}
 use Rattle.packing_terms.specs.Refutation.{exclusion_in_text, IsNamed}
-use Rattle.rule_terms.specs.Applied.{Extends}
-use Rattle.rule_terms.specs.Steps.{with_exclusion}
+use Rattle.packing_terms.specs.Applied.{Extends}
+use Rattle.packing_terms.specs.Steps.{with_exclusion}
 use Rattle.edge_state.specs.Edges.{PlainEdges, oldest}
 use Rattle.edge_state.proofs.Oldest.{oldest_grown, oldest_all}
-use Rattle.explained_terms.specs.Steps.{PlainStep}
-use Rattle.explained_terms.specs.Steps.PlainStep.{Plain}
-use Rattle.explained_terms.specs.Explaining.{Explains, after_rule, by_apart, by_order}
-use Rattle.explained_terms.specs.Stepping.{StepsTo, lines_of_all}
-use Rattle.explained_terms.proofs.Few.{edge_of}
-use Rattle.explained_terms.proofs.Stepped.{steps_explain, steps_derived}
+use Rattle.verdict_terms.specs.Steps.{PlainStep}
+use Rattle.verdict_terms.specs.Steps.PlainStep.{Plain}
+use Rattle.verdict_terms.specs.Explaining.{Explains, after_rule, by_apart, by_order}
+use Rattle.verdict_terms.specs.Stepping.{StepsTo, lines_of_all}
+use Rattle.verdict_terms.proofs.Few.{edge_of}
+use Rattle.verdict_terms.proofs.Stepped.{steps_explain, steps_derived}
 use Rattle.line_proofs.specs.Boxed.{Grows}
 use Rattle.line_proofs.proofs.ChainBoxes.{grows_with}
 use Rattle.line_proofs.proofs.Lined.{grows_none, grows_then, grows_rule}

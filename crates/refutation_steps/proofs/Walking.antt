@@ -5,11 +5,11 @@ use Rattle.packing_terms.specs.Packing.{PlainInstance, dims, box_count}
 use Rattle.packing_terms.specs.Exclusions.{Exclusions, excludes}
 use Rattle.packing_terms.specs.Closure.{AreDerived}
 use Rattle.edge_state.specs.Edges.{PlainEdges}
-use Rattle.explained_terms.specs.Steps.{PlainStep, tokens_among}
-use Rattle.explained_terms.specs.Steps.PlainStep.{Clash}
-use Rattle.explained_terms.specs.Explaining.{Explains, by_clash}
-use Rattle.explained_terms.specs.Stepping.{lines_of_all}
-use Rattle.explained_terms.proofs.Stepped.{steps_explain, steps_derived, steps_tokens, tokens_joined}
+use Rattle.verdict_terms.specs.Steps.{PlainStep, tokens_among}
+use Rattle.verdict_terms.specs.Steps.PlainStep.{Clash}
+use Rattle.verdict_terms.specs.Explaining.{Explains, by_clash}
+use Rattle.verdict_terms.specs.Stepping.{lines_of_all}
+use Rattle.verdict_terms.proofs.Stepped.{steps_explain, steps_derived, steps_tokens, tokens_joined}
 use Rattle.refutation_steps.specs.declared.empties.Place.{Place}
 use Rattle.refutation_steps.specs.Goes.{Goes}
 use Rattle.refutation_steps.specs.Empties.{IsEmptyPlace}

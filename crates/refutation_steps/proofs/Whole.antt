@@ -9,8 +9,8 @@ use Rattle.packing_terms.specs.Refutation.{Refutes, by_rules, by_side, by_scales
 use Rattle.packing_terms.proofs.Closures.{given_derived}
 use Rattle.edge_state.specs.Edges.{oldest}
 use Rattle.edge_state.proofs.Oldest.{oldest_none}
-use Rattle.explained_terms.specs.Steps.{PlainStep, tokens_among}
-use Rattle.explained_terms.specs.Explaining.{Explains}
+use Rattle.verdict_terms.specs.Steps.{PlainStep, tokens_among}
+use Rattle.verdict_terms.specs.Explaining.{Explains}
 use Rattle.proof_tree.specs.declared.token.Token.{Token}
 use Rattle.proof_tree.specs.Plain.{plain_token, plain_tokens}
 use Rattle.refutation_steps.specs.Walks.{IsBetween}

@@ -6,11 +6,11 @@ use Rattle.packing_terms.specs.declared.Exclusion.{Exclusion}
 use Rattle.packing_terms.specs.Packing.{PlainInstance, box_count, side}
 use Rattle.packing_terms.specs.Exclusions.{excludes}
 use Rattle.packing_terms.specs.Rules.{Rule, Chain, AreBoxesAmong, AreBoxes, IsChain, weight, IsRuleInstance, Premises}
-use Rattle.rule_terms.specs.declared.Direction.{Direction}
-use Rattle.rule_terms.specs.Runs.{IsRun, Leads, IsTransitive, IsOneWay, IsHeaviestRun}
+use Rattle.packing_terms.specs.declared.Direction.{Direction}
+use Rattle.packing_terms.specs.Runs.{IsRun, Leads, IsTransitive, IsOneWay, IsHeaviestRun}
 use Rattle.edge_state.specs.Edges.{PlainEdges}
-use Rattle.closure_terms.specs.States.{IsSized, HasEmptyMask}
-use Rattle.explained_terms.specs.Steps.{PlainStep}
+use Rattle.edge_state.specs.States.{IsSized, HasEmptyMask}
+use Rattle.verdict_terms.specs.Steps.{PlainStep}
 use Rattle.refutation_steps.specs.Goes.{Goes, IsTried}
 use Rattle.refutation_steps.specs.Replays.{IsChainRule}
 

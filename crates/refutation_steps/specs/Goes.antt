@@ -5,8 +5,8 @@ use Rattle.packing_terms.specs.Packing.{PlainInstance}
 use Rattle.packing_terms.specs.Exclusions.{Exclusions, excludes}
 use Rattle.packing_terms.specs.Rules.{Rule, IsRuleInstance, Premises, Concludes, dim_of, first_of, second_of}
 use Rattle.edge_state.specs.Edges.{PlainEdges}
-use Rattle.explained_terms.specs.Steps.{PlainStep}
-use Rattle.explained_terms.specs.Stepping.{StepsTo, lines_of_all}
+use Rattle.verdict_terms.specs.Steps.{PlainStep}
+use Rattle.verdict_terms.specs.Stepping.{StepsTo, lines_of_all}
 
 -- steps lead from one state to the other, and their lines came behind the lines
 pub record Goes (instance : PlainInstance) (old new : PlainEdges) (before after : List PlainStep) : Type 0 where

@@ -3,10 +3,10 @@ use Rattle.std.specs.Prelude.{ℕ, ◌≡◌, ◌<◌, List, [], ◌∷◌, Bool
 use Rattle.packing_terms.specs.Packing.{PlainInstance, box_count}
 use Rattle.packing_terms.specs.Exclusions.{Exclusions, excludes, IsSurelyBefore}
 use Rattle.packing_terms.specs.Rules.{AreBoxesAmong}
-use Rattle.rule_terms.specs.Runs.{IsTransitive}
+use Rattle.packing_terms.specs.Runs.{IsTransitive}
 use Rattle.edge_state.specs.Edges.{PlainEdges}
-use Rattle.explained_terms.specs.Steps.{PlainStep}
-use Rattle.explained_terms.specs.Kept.{opens}
+use Rattle.verdict_terms.specs.Steps.{PlainStep}
+use Rattle.verdict_terms.specs.Kept.{opens}
 use Rattle.refutation_steps.specs.Goes.{Goes}
 
 -- surely before leads on at three boxes

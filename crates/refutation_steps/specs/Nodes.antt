@@ -7,12 +7,12 @@ use Rattle.packing_terms.specs.Exclusions.{excludes, IsEdgeAmong}
 use Rattle.packing_terms.specs.Closure.{IsSubset, IsStable, AreDerived}
 use Rattle.packing_terms.specs.Tokens.{PlainToken}
 use Rattle.packing_terms.specs.Refutation.{Refutes}
-use Rattle.rule_terms.specs.Steps.{with_exclusion}
-use Rattle.rule_terms.specs.Places.{HasNoEmptyMask}
+use Rattle.packing_terms.specs.Steps.{with_exclusion}
+use Rattle.packing_terms.specs.Places.{HasNoEmptyMask}
 use Rattle.edge_state.specs.Edges.{PlainEdges, oldest}
-use Rattle.closure_terms.specs.States.{HasEmptyMask}
-use Rattle.explained_terms.specs.Steps.{PlainStep}
-use Rattle.explained_terms.specs.Explaining.{Explains}
+use Rattle.edge_state.specs.States.{HasEmptyMask}
+use Rattle.verdict_terms.specs.Steps.{PlainStep}
+use Rattle.verdict_terms.specs.Explaining.{Explains}
 use Rattle.refutation_steps.specs.declared.pending.Pending.{Pending}
 use Rattle.refutation_steps.specs.Goes.{Goes}
 

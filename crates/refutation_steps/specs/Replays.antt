@@ -7,8 +7,8 @@ use Rattle.packing_terms.specs.Exclusions.{excludes}
 use Rattle.packing_terms.specs.Rules.{Rule, Follows, Pair, Apart, Triple, Chain, Compose, Cycle, Order}
 use Rattle.packing_terms.specs.Closure.{IsSubset}
 use Rattle.edge_state.specs.Edges.{PlainEdges}
-use Rattle.closure_terms.specs.States.{HasEmptyMask}
-use Rattle.explained_terms.specs.Steps.{PlainStep}
+use Rattle.edge_state.specs.States.{HasEmptyMask}
+use Rattle.verdict_terms.specs.Steps.{PlainStep}
 use Rattle.refutation_steps.specs.Goes.{Goes, IsThere, IsTried}
 use Rattle.refutation_steps.specs.Places.{IsPlain}
 

@@ -6,8 +6,8 @@ use Rattle.packing_terms.specs.declared.Exclusion.{Exclusion}
 use Rattle.packing_terms.specs.Tokens.{PlainToken}
 use Rattle.packing_terms.specs.Tokens.PlainToken.{Apart, Order}
 use Rattle.packing_terms.specs.Refutation.{exclusion_in_text}
-use Rattle.explained_terms.specs.Steps.{tokens_among}
-use Rattle.explained_terms.specs.Steps.PlainStep.{Plain}
+use Rattle.verdict_terms.specs.Steps.{tokens_among}
+use Rattle.verdict_terms.specs.Steps.PlainStep.{Plain}
 use Rattle.refutation_steps.specs.declared.pending.Pending.{Pending}
 use Rattle.refutation_steps.specs.declared.walk_state.Walk.{Walk}
 use Rattle.refutation_steps.specs.Chains.{HasWeights}

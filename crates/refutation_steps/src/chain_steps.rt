@@ -4,12 +4,12 @@ ghost use Rattle.packing_terms.specs.declared.Rel.TheVariants.{Before as PlainBe
 ghost use Rattle.packing_terms.specs.Packing.{dims, box_count};
 ghost use Rattle.packing_terms.specs.Exclusions.{excludes, IsSurelyBefore, IsEdgeAmong};
 ghost use Rattle.packing_terms.specs.Rules.{AreBoxes};
-ghost use Rattle.rule_terms.specs.declared.Direction.TheVariants.{Forwards, Backwards};
-ghost use Rattle.rule_terms.specs.Places.{HasNoEmptyMask};
-ghost use Rattle.rule_terms.specs.Runs.{IsTransitive};
-ghost use Rattle.closure_terms.specs.States.{IsSized};
-ghost use Rattle.explained_terms.specs.Steps.{box_lines};
-ghost use Rattle.explained_terms.specs.Steps.PlainStep.{Chain as PlainChain};
+ghost use Rattle.packing_terms.specs.declared.Direction.TheVariants.{Forwards, Backwards};
+ghost use Rattle.packing_terms.specs.Places.{HasNoEmptyMask};
+ghost use Rattle.packing_terms.specs.Runs.{IsTransitive};
+ghost use Rattle.edge_state.specs.States.{IsSized};
+ghost use Rattle.verdict_terms.specs.Steps.{box_lines};
+ghost use Rattle.verdict_terms.specs.Steps.PlainStep.{Chain as PlainChain};
 ghost use Rattle.refutation_steps.specs.Places.{IsPlaced, IsSought};
 ghost use Rattle.refutation_steps.specs.Replays.{IsChainRule};
 ghost use Rattle.refutation_steps.specs.Chains.{AreWeighed, HasWeights, IsChainFound, IsChainStepped, IsChainTry};

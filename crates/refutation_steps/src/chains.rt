@@ -2,13 +2,13 @@
 ghost use Rattle.std.specs.Prelude.{◌≡◌, ◌<◌, ◌≤◌, ◌-◌, ◌↔◌, ◌≢◌, ℕ, false, [], length, slice_index, IsTrue, OnOk, MatchOption};
 ghost use Rattle.packing_terms.specs.Packing.{box_count, side};
 ghost use Rattle.packing_terms.specs.Exclusions.{excludes, IsEdgeAmong};
-ghost use Rattle.rule_terms.specs.declared.Direction.TheVariants.{Forwards, Backwards};
-ghost use Rattle.rule_terms.specs.Runs.{Leads};
+ghost use Rattle.packing_terms.specs.declared.Direction.TheVariants.{Forwards, Backwards};
+ghost use Rattle.packing_terms.specs.Runs.{Leads};
 ghost use Rattle.refutation_steps.specs.Chains.{AreWeighed, IsNextBox, IsNoNextBox, IsRunPushed, IsChainTo, IsChainFrom};
 
 use box_instances::{Instance, NoMemory};
 use edge_state::EdgeState;
-use rule_terms::Direction;
+use packing_terms::Direction;
 
 // Whether a chain goes on from one box to the other.
 fn leads_to(state: &EdgeState, dim: u32, direction: Direction, v: u32, w: u32) -> bool

@@ -2,11 +2,11 @@
 ghost use Rattle.std.specs.Prelude.{◌≡◌, ◌<◌, ◌&&◌, ℕ, [], ◌∷◌, not, OnOk, IfOk};
 ghost use Rattle.packing_terms.specs.Packing.{dims, box_count};
 ghost use Rattle.packing_terms.specs.Exclusions.{excludes, IsSurelyBefore};
-ghost use Rattle.rule_terms.specs.Rounds.{is_surely_before};
-ghost use Rattle.rule_terms.specs.Runs.{IsTransitive};
+ghost use Rattle.packing_terms.specs.Rounds.{is_surely_before};
+ghost use Rattle.packing_terms.specs.Runs.{IsTransitive};
 ghost use Rattle.edge_state.specs.Edges.{is_other_box};
 ghost use Rattle.edge_state.specs.BitRows.{row_has};
-ghost use Rattle.closure_terms.specs.States.{IsSized};
+ghost use Rattle.edge_state.specs.States.{IsSized};
 ghost use Rattle.refutation_steps.specs.Links.{IsLinkedAt, IsLinkTry, IsLinkedThrough};
 
 use crate::places::are_three;

@@ -3,7 +3,7 @@ ghost use Rattle.std.specs.Prelude.{◌≡◌, IfOk, OnOk};
 ghost use Rattle.packing_terms.specs.Packing.{dims, box_count};
 ghost use Rattle.packing_terms.specs.Exclusions.{excludes};
 ghost use Rattle.packing_terms.specs.Closure.{IsSubset};
-ghost use Rattle.rule_terms.specs.Applied.{Extends};
+ghost use Rattle.packing_terms.specs.Applied.{Extends};
 ghost use Rattle.rule_closure.specs.Closes.{IsClosed};
 ghost use Rattle.refutation_steps.specs.Nodes.{IsKnown, IsSettled};
 ghost use Rattle.refutation_steps.specs.Walks.{IsFor};

@@ -1,7 +1,7 @@
 //! Explanations that have only steps that something later needs.
 ghost use Rattle.std.specs.Prelude.{◌≡◌, [], IsTrue, IfOk, MatchOption};
-ghost use Rattle.explained_terms.specs.Steps.{tokens_among};
-ghost use Rattle.explained_terms.specs.Explaining.{Explains};
+ghost use Rattle.verdict_terms.specs.Steps.{tokens_among};
+ghost use Rattle.verdict_terms.specs.Explaining.{Explains};
 ghost use Rattle.proof_tree.specs.Plain.{plain_tokens};
 
 use crate::closings::{begin_closings, trace_token};

@@ -1,7 +1,7 @@
 //! The two children of a split.
 ghost use Rattle.std.specs.Prelude.{◌≡◌, ◌≤◌, ◌++◌, ◌∷◌, [], length, reverse, OnOk, Some, None};
 ghost use Rattle.packing_terms.specs.Refutation.{exclusion_in_text};
-ghost use Rattle.explained_terms.specs.Steps.PlainStep.{Plain as PlainPlain};
+ghost use Rattle.verdict_terms.specs.Steps.PlainStep.{Plain as PlainPlain};
 ghost use Rattle.proof_tree.specs.Plain.{plain_token};
 ghost use Rattle.refutation_steps.specs.Walks.{child_of, IsSplit, IsApartSplit, IsOrderSplit};
 

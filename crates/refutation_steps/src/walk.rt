@@ -2,8 +2,8 @@
 ghost use Rattle.std.specs.Prelude.{◌≡◌, ◌∷◌, [], List, OnOk, IfOk};
 ghost use Rattle.packing_terms.specs.Tokens.{PlainToken};
 ghost use Rattle.packing_terms.specs.Refutation.{Refutes};
-ghost use Rattle.explained_terms.specs.Steps.{tokens_among};
-ghost use Rattle.explained_terms.specs.Explaining.{Explains};
+ghost use Rattle.verdict_terms.specs.Steps.{tokens_among};
+ghost use Rattle.verdict_terms.specs.Explaining.{Explains};
 ghost use Rattle.proof_tree.specs.Plain.{plain_tokens};
 ghost use Rattle.refutation_steps.specs.Walks.{IsFor, IsBetween, IsAt};
 

@@ -1,6 +1,6 @@
 //! The lines of reasons and tokens.
 ghost use Rattle.std.specs.Prelude.{◌≡◌, [], ◌∷◌, ◌++◌, OnOk, IfOk};
-ghost use Rattle.explained_terms.specs.Steps.{tokens_among};
+ghost use Rattle.verdict_terms.specs.Steps.{tokens_among};
 ghost use Rattle.line_proofs.specs.Plain.{plain_step};
 ghost use Rattle.proof_tree.specs.Plain.{plain_token, plain_tokens};
 ghost use Rattle.refutation_steps.specs.Shortened.{IsNoToken};

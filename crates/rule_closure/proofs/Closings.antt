@@ -4,10 +4,10 @@ use Rattle.packing_terms.specs.declared.Exclusion.{Exclusion}
 use Rattle.packing_terms.specs.Packing.{PlainInstance}
 use Rattle.packing_terms.specs.Exclusions.{excludes}
 use Rattle.packing_terms.specs.Closure.{IsStable}
-use Rattle.rule_terms.specs.Applied.{Extends}
-use Rattle.rule_terms.specs.Places.{HasNoEmptyMask}
-use Rattle.closure_terms.specs.States.{HasEmptyMask}
-use Rattle.closure_terms.proofs.Ends.{ended_closure, ended_conflict}
+use Rattle.packing_terms.specs.Applied.{Extends}
+use Rattle.packing_terms.specs.Places.{HasNoEmptyMask}
+use Rattle.edge_state.specs.States.{HasEmptyMask}
+use Rattle.edge_state.proofs.Ends.{ended_closure, ended_conflict}
 use Rattle.rule_closure.specs.Closes.{IsClosed}
 use Rattle.rule_closure.specs.declared.closer.Closed.{Closed}
 use Rattle.rule_closure.specs.declared.closer.Closed.TheVariants.{Stable, Conflict}

@@ -3,7 +3,7 @@ use Rattle.std.specs.Prelude.{ℕ, List}
 use Rattle.packing_terms.specs.declared.Exclusion.{Exclusion}
 use Rattle.packing_terms.specs.Packing.{PlainInstance}
 use Rattle.packing_terms.specs.Exclusions.{excludes}
-use Rattle.closure_terms.specs.Ends.{IsClosureOf, IsConflictOf}
+use Rattle.edge_state.specs.Ends.{IsClosureOf, IsConflictOf}
 use Rattle.rule_closure.specs.declared.closer.Closed.{Closed}
 use Rattle.rule_closure.specs.declared.closer.Closed.TheVariants.{Stable, Conflict}
 

@@ -9,17 +9,17 @@ use Rattle.packing_terms.specs.declared.Exclusion.{Exclusion}
 use Rattle.packing_terms.specs.Packing.{PlainInstance, box_count, container_side}
 use Rattle.packing_terms.specs.Exclusions.{Exclusions, excludes, IsEdge}
 use Rattle.packing_terms.specs.Rules.{Chain, Follows, by_rule}
-use Rattle.rule_terms.specs.Applied.{Extends}
-use Rattle.rule_terms.specs.Runs.{HasHead, HasTail, AreHeads, AreTails}
+use Rattle.packing_terms.specs.Applied.{Extends}
+use Rattle.packing_terms.specs.Runs.{HasHead, HasTail, AreHeads, AreTails}
 use Rattle.edge_state.specs.Edges.{PlainEdges, is_other_box}
 use Rattle.edge_state.specs.RowExclusions.{with_row, taken_at, HasEmptyAt}
 use Rattle.edge_state.proofs.Kept.{row_shut}
 use Rattle.edge_state.proofs.RowDerived.{row_extends}
 use Rattle.edge_state.proofs.RowExclusions.{row_keeps, row_takes}
 use Rattle.edge_state.proofs.RowSteps.{box_apart}
-use Rattle.closure_terms.specs.States.{IsSized, HasEmptyMask}
-use Rattle.closure_terms.specs.Passes.{IsPass, IsChainChecked}
-use Rattle.closure_terms.proofs.Passes.{shut_kept}
+use Rattle.edge_state.specs.States.{IsSized, HasEmptyMask}
+use Rattle.edge_state.specs.Passes.{IsPass, IsChainChecked}
+use Rattle.edge_state.proofs.Passes.{shut_kept}
 
 -- a box that isn't beyond the limit beside u, or that u isn't before, has nothing to be excluded
 pub shut_off : (instance : PlainInstance) (i n limit : ℕ) (head tail : List ℕ) (u v : ℕ) (es : List Exclusion)

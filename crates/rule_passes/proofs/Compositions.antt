@@ -4,7 +4,7 @@ use Rattle.std.proofs.lemmas.Bool.{true≢false, or_parts, or_cases, or_left, or
 use Rattle.packing_terms.specs.declared.Rel.{Rel}
 use Rattle.packing_terms.specs.declared.Rel.TheVariants.{Overlap, Before, After}
 use Rattle.edge_state.specs.Edges.{is_other_box}
-use Rattle.closure_terms.proofs.Filters.{row_within}
+use Rattle.edge_state.proofs.Filters.{row_within}
 
 pub kept_overlap : (qo qb qa o b a t : Bool) → (((o || b) || a) && ((qo || qb) || qa)) ≡ true
     → ((t && (not ((o || (a && qb)) || (b && qa)))) && (not qo)) ≡ false

@@ -7,8 +7,8 @@ use Rattle.packing_terms.specs.Packing.{PlainInstance}
 use Rattle.packing_terms.specs.Exclusions.{excludes, IsJoined}
 use Rattle.packing_terms.proofs.Sets.{excludes_symmetric}
 use Rattle.packing_terms.specs.Rules.{Cycle}
-use Rattle.closure_terms.specs.Work.{IsCovered}
-use Rattle.closure_terms.proofs.Filters.{covered_cycle}
+use Rattle.edge_state.specs.Work.{IsCovered}
+use Rattle.edge_state.proofs.Filters.{covered_cycle}
 
 -- a fourth box that isn't joined with the first, or is with the second, whatever the third
 pub covered_fourth : (instance : PlainInstance) (es : List Exclusion) (i a b c d : ℕ) (free first : Bool)

@@ -4,16 +4,16 @@ use Rattle.std.proofs.lemmas.Bool.{true≢false, cases_Bool}
 use Rattle.packing_terms.specs.declared.Rel.{Rel}
 use Rattle.packing_terms.specs.declared.Rel.TheVariants.{Overlap, Before, After}
 use Rattle.packing_terms.specs.Packing.{PlainInstance, dims, box_count}
-use Rattle.rule_terms.specs.Places.{HasNoEmptyMask}
+use Rattle.packing_terms.specs.Places.{HasNoEmptyMask}
 use Rattle.packing_terms.specs.Relations.{mirror}
 use Rattle.packing_terms.specs.Exclusions.{Exclusions, excludes}
 use Rattle.packing_terms.specs.Rules.{Rule, Compose, IsRuleInstance, Premises}
 use Rattle.edge_state.specs.Edges.{PlainEdges}
-use Rattle.closure_terms.specs.Work.{HasApplied, IsCovered, IsDueAt, IsDue}
-use Rattle.closure_terms.specs.Instances.{DueAll, Composes, OrdersCrossed}
-use Rattle.closure_terms.proofs.Instances.{worked_reached}
-use Rattle.closure_terms.proofs.Members.{covered_named}
-use Rattle.closure_terms.proofs.Worked.{covered_if, covered_not, worked_as, worked_none}
+use Rattle.edge_state.specs.Work.{HasApplied, IsCovered, IsDueAt, IsDue}
+use Rattle.edge_state.specs.Instances.{DueAll, Composes, OrdersCrossed}
+use Rattle.edge_state.proofs.Instances.{worked_reached}
+use Rattle.edge_state.proofs.Members.{covered_named}
+use Rattle.edge_state.proofs.Worked.{covered_if, covered_not, worked_as, worked_none}
 use Rattle.rule_passes.specs.Reached.{IsReachedApart, IsReachedJoined, IsReachedOrdered, IsReachedFrom}
 
 -- more instances, where those that come in have no premises

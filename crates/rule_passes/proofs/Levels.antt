@@ -7,13 +7,13 @@ use Rattle.std.proofs.lemmas.List.{length-set, length-append, get_or-set_same, g
 use Rattle.packing_terms.specs.declared.Exclusion.{Exclusion}
 use Rattle.packing_terms.specs.Packing.{PlainInstance, box_count}
 use Rattle.packing_terms.specs.Exclusions.{excludes}
-use Rattle.rule_terms.specs.Runs.{AreHeaviestHeads, AreHeaviestTails}
-use Rattle.rule_terms.proofs.Applied.{extends_trans}
+use Rattle.packing_terms.specs.Runs.{AreHeaviestHeads, AreHeaviestTails}
+use Rattle.packing_terms.proofs.Applied.{extends_trans}
 use Rattle.edge_state.specs.Edges.{PlainEdges}
-use Rattle.closure_terms.specs.States.{HasEmptyMask}
-use Rattle.closure_terms.specs.Work.{IsChainIn, HasApplied}
-use Rattle.closure_terms.proofs.Passes.{pass_as, worked_heaviest}
-use Rattle.closure_terms.specs.Passes.{IsPass, IsChainChecked}
+use Rattle.edge_state.specs.States.{HasEmptyMask}
+use Rattle.edge_state.specs.Work.{IsChainIn, HasApplied}
+use Rattle.edge_state.proofs.Passes.{pass_as, worked_heaviest}
+use Rattle.edge_state.specs.Passes.{IsPass, IsChainChecked}
 use Rattle.orientation_rules.specs.CachedChainWeights.{PlainLevels}
 use Rattle.orientation_rules.proofs.KeptRuns.{each_more}
 use Rattle.rule_passes.specs.Rooms.{HaveEach}

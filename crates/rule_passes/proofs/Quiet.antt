@@ -11,16 +11,16 @@ use Rattle.packing_terms.specs.Relations.{mirror}
 use Rattle.packing_terms.specs.Exclusions.{Exclusions, excludes, is_same_rel, exclusion_at, IsEdge, IsJoined}
 use Rattle.packing_terms.specs.Rules.{Rule, Apart, IsRuleInstance, Premises}
 use Rattle.packing_terms.proofs.Sets.{excludes_symmetric}
-use Rattle.rule_terms.specs.Places.{HasNoEmptyMask}
-use Rattle.rule_terms.specs.Applied.{Adds, added, mirror_added, is_narrowed, IsApplied}
-use Rattle.rule_terms.specs.Steps.{with_exclusion}
-use Rattle.rule_terms.proofs.Applied.{applied_by}
+use Rattle.packing_terms.specs.Places.{HasNoEmptyMask}
+use Rattle.packing_terms.specs.Applied.{Adds, added, mirror_added, is_narrowed, IsApplied}
+use Rattle.packing_terms.specs.Steps.{with_exclusion}
+use Rattle.packing_terms.proofs.Applied.{applied_by}
 use Rattle.edge_state.specs.Edges.{PlainEdges}
 use Rattle.edge_state.proofs.Tables.{excludes_mirror}
-use Rattle.closure_terms.specs.Instances.{Composes, Cycles, OrdersCrossed}
-use Rattle.closure_terms.specs.States.{HasEmptyMask}
-use Rattle.closure_terms.specs.Work.{HasApplied, IsCovered, IsDue}
-use Rattle.closure_terms.proofs.Worked.{worked_none, worked_applied}
+use Rattle.edge_state.specs.Instances.{Composes, Cycles, OrdersCrossed}
+use Rattle.edge_state.specs.States.{HasEmptyMask}
+use Rattle.edge_state.specs.Work.{HasApplied, IsCovered, IsDue}
+use Rattle.edge_state.proofs.Worked.{worked_none, worked_applied}
 use Rattle.orientation_rules.proofs.Keeps.{rest_drops, rest_only}
 use Rattle.rule_passes.specs.Reached.{IsReachedOrdered, IsReachedBoth, IsReachedLater}
 use Rattle.rule_passes.proofs.CycleRows.{joined_back}

@@ -11,14 +11,14 @@ use Rattle.packing_terms.specs.Exclusions.{Exclusions, excludes, is_same_rel}
 use Rattle.packing_terms.specs.Rules.{Rule, Triple, Compose, Cycle, Order, IsRuleInstance, Premises, Concludes, Follows}
 use Rattle.packing_terms.specs.Rules.{by_rule, mirrored, dim_of, first_of, second_of}
 use Rattle.packing_terms.proofs.Sets.{excludes_symmetric}
-use Rattle.rule_terms.specs.Applied.{Adds, added, mirror_added}
+use Rattle.packing_terms.specs.Applied.{Adds, added, mirror_added}
 use Rattle.edge_state.specs.Edges.{PlainEdges, is_other_box}
 use Rattle.edge_state.proofs.Kept.{row_open, row_shut, open_is}
 use Rattle.edge_state.proofs.RowSteps.{box_apart}
 use Rattle.edge_state.proofs.Tables.{other_from}
-use Rattle.closure_terms.proofs.Filters.{minus_off}
-use Rattle.closure_terms.specs.Work.{HasApplied, IsCovered}
-use Rattle.closure_terms.proofs.Worked.{worked_as, worked_then}
+use Rattle.edge_state.proofs.Filters.{minus_off}
+use Rattle.edge_state.specs.Work.{HasApplied, IsCovered}
+use Rattle.edge_state.proofs.Worked.{worked_as, worked_then}
 use Rattle.rule_passes.specs.Reached.{NoRule, composed}
 use Rattle.rule_passes.proofs.RowStates.{other_there}
 

@@ -13,8 +13,8 @@ use Rattle.edge_state.proofs.Kept.{row_shut, row_open}
 use Rattle.edge_state.proofs.RowDerived.{row_extends}
 use Rattle.edge_state.proofs.RowExclusions.{row_keeps, row_takes}
 use Rattle.edge_state.proofs.RowSteps.{edge_of, box_apart}
-use Rattle.closure_terms.specs.States.{IsSized, HasEmptyMask}
-use Rattle.closure_terms.specs.Work.{HasApplied}
+use Rattle.edge_state.specs.States.{IsSized, HasEmptyMask}
+use Rattle.edge_state.specs.Work.{HasApplied}
 use Rattle.rule_passes.specs.Reached.{NoRule}
 
 -- another box is there

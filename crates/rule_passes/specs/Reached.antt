@@ -5,7 +5,7 @@ use Rattle.packing_terms.specs.declared.Rel.TheVariants.{Overlap, Before, After}
 use Rattle.packing_terms.specs.Packing.{PlainInstance, dims, box_count, side}
 use Rattle.packing_terms.specs.Exclusions.{Exclusions}
 use Rattle.packing_terms.specs.Rules.{Rule, Apart, Triple, Cycle, Order}
-use Rattle.closure_terms.specs.Instances.{OrdersCrossed, Aparts, Cycles, Chords, Triples}
+use Rattle.edge_state.specs.Instances.{OrdersCrossed, Aparts, Cycles, Chords, Triples}
 
 -- no box is longer
 abbrev pub BoundsSides : PlainInstance → ℕ → ℕ → Type 0

@@ -8,9 +8,9 @@ ghost use Rattle.packing_terms.specs.Rules.{Triple, Compose, Cycle, Order, Follo
 ghost use Rattle.relation_table.specs.Masks.{mask_has};
 ghost use Rattle.edge_state.specs.BitRows.{IsRowWidth, HoldsBoxes, row_has};
 ghost use Rattle.edge_state.specs.Edges.{is_other_box};
-ghost use Rattle.closure_terms.specs.States.{IsSized};
-ghost use Rattle.closure_terms.specs.Work.{IsCovered};
-ghost use Rattle.closure_terms.specs.Rows.{in_each_relation};
+ghost use Rattle.edge_state.specs.States.{IsSized};
+ghost use Rattle.edge_state.specs.Work.{IsCovered};
+ghost use Rattle.edge_state.specs.Rows.{in_each_relation};
 ghost use Rattle.rule_passes.specs.Reached.{composed};
 
 use crate::rows::{either, gone, one_of, pick};

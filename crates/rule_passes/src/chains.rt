@@ -2,12 +2,12 @@
 ghost use Rattle.std.specs.Prelude.{◌≡◌, ◌<◌, ℕ, true, false};
 ghost use Rattle.packing_terms.specs.Packing.{dims, box_count, container_side};
 ghost use Rattle.packing_terms.specs.Exclusions.{excludes, IsSurelyBefore};
-ghost use Rattle.rule_terms.specs.Places.{HasNoEmptyMask};
-ghost use Rattle.rule_terms.specs.Runs.{AreHeads, AreTails, IsTransitive};
+ghost use Rattle.packing_terms.specs.Places.{HasNoEmptyMask};
+ghost use Rattle.packing_terms.specs.Runs.{AreHeads, AreTails, IsTransitive};
 ghost use Rattle.edge_state.specs.BitRows.{HoldsBoxes};
-ghost use Rattle.closure_terms.specs.States.{IsSized, HasEmptyMask};
-ghost use Rattle.closure_terms.specs.Work.{IsChainIn, HasApplied};
-ghost use Rattle.closure_terms.specs.Passes.{IsPass, IsChainChecked};
+ghost use Rattle.edge_state.specs.States.{IsSized, HasEmptyMask};
+ghost use Rattle.edge_state.specs.Work.{IsChainIn, HasApplied};
+ghost use Rattle.edge_state.specs.Passes.{IsPass, IsChainChecked};
 
 use crate::rows::is_empty;
 use box_instances::Instance;

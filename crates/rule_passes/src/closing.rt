@@ -3,12 +3,12 @@ ghost use Rattle.std.specs.Prelude.{◌≡◌, ◌<◌, ◌≤◌, ◌-◌, ℕ,
 ghost use Rattle.packing_terms.specs.Packing.{dims, box_count};
 ghost use Rattle.packing_terms.specs.Exclusions.{excludes};
 ghost use Rattle.packing_terms.specs.Closure.{IsStable};
-ghost use Rattle.rule_terms.specs.Applied.{Extends};
-ghost use Rattle.rule_terms.specs.Places.{HasNoEmptyMask};
+ghost use Rattle.packing_terms.specs.Applied.{Extends};
+ghost use Rattle.packing_terms.specs.Places.{HasNoEmptyMask};
 ghost use Rattle.edge_state.specs.BitRows.{IsRowWidth, HoldsBoxes, row_has};
 ghost use Rattle.edge_state.specs.Edges.{oldest};
-ghost use Rattle.closure_terms.specs.States.{HasEmptyMask};
-ghost use Rattle.closure_terms.specs.Work.{IsUpToDate, IsChainUpToDate};
+ghost use Rattle.edge_state.specs.States.{HasEmptyMask};
+ghost use Rattle.edge_state.specs.Work.{IsUpToDate, IsChainUpToDate};
 ghost use Rattle.rule_passes.specs.Rooms.{AreKept, AreMade};
 
 use crate::chains::propagate_chains;

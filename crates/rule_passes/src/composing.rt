@@ -5,13 +5,13 @@ ghost use Rattle.packing_terms.specs.declared.Rel.TheVariants.{Overlap, Before, 
 ghost use Rattle.packing_terms.specs.Packing.{box_count};
 ghost use Rattle.packing_terms.specs.Exclusions.{excludes};
 ghost use Rattle.packing_terms.specs.Rules.{Follows};
-ghost use Rattle.rule_terms.specs.Places.{HasNoEmptyMask};
+ghost use Rattle.packing_terms.specs.Places.{HasNoEmptyMask};
 ghost use Rattle.relation_table.specs.Masks.{mask_has};
 ghost use Rattle.edge_state.specs.BitRows.{HoldsBoxes, row_has};
 ghost use Rattle.edge_state.specs.Edges.{is_other_box};
-ghost use Rattle.closure_terms.specs.Instances.{Composes};
-ghost use Rattle.closure_terms.specs.States.{IsSized};
-ghost use Rattle.closure_terms.specs.Work.{HasApplied};
+ghost use Rattle.edge_state.specs.Instances.{Composes};
+ghost use Rattle.edge_state.specs.States.{IsSized};
+ghost use Rattle.edge_state.specs.Work.{HasApplied};
 ghost use Rattle.rule_passes.specs.Reached.{NoRule};
 
 use crate::candidates::uncomposed;

@@ -6,9 +6,9 @@ ghost use Rattle.packing_terms.specs.Packing.{box_count};
 ghost use Rattle.packing_terms.specs.Exclusions.{excludes, IsJoined};
 ghost use Rattle.packing_terms.specs.Rules.{Cycle};
 ghost use Rattle.edge_state.specs.BitRows.{HoldsBoxes, row_has};
-ghost use Rattle.closure_terms.specs.Instances.{Chords, Cycles};
-ghost use Rattle.closure_terms.specs.States.{IsSized};
-ghost use Rattle.closure_terms.specs.Work.{HasApplied};
+ghost use Rattle.edge_state.specs.Instances.{Chords, Cycles};
+ghost use Rattle.edge_state.specs.States.{IsSized};
+ghost use Rattle.edge_state.specs.Work.{HasApplied};
 
 use crate::candidates::{cycle_fourths, cycle_seconds, cycle_thirds};
 use crate::excluding::{exclude_between, exclude_both};

@@ -8,11 +8,11 @@ ghost use Rattle.packing_terms.specs.declared.Rel.{Rel as PlainRel};
 ghost use Rattle.packing_terms.specs.Relations.{mirror};
 ghost use Rattle.packing_terms.specs.Packing.{box_count};
 ghost use Rattle.packing_terms.specs.Exclusions.{is_same_rel, excludes};
-ghost use Rattle.rule_terms.specs.Places.{HasNoEmptyMask};
+ghost use Rattle.packing_terms.specs.Places.{HasNoEmptyMask};
 ghost use Rattle.relation_table.specs.Masks.{mask_has};
 ghost use Rattle.edge_state.specs.BitRows.{HoldsBoxes, row_has};
-ghost use Rattle.closure_terms.specs.States.{IsSized};
-ghost use Rattle.closure_terms.specs.Work.{HasApplied, IsDue};
+ghost use Rattle.edge_state.specs.States.{IsSized};
+ghost use Rattle.edge_state.specs.Work.{HasApplied, IsDue};
 ghost use Rattle.rule_passes.specs.Reached.{BoundsSides, IsReachedBoth, IsReachedChorded, IsReachedLater};
 
 use crate::composing::spread_composed;

@@ -4,7 +4,7 @@ ghost use Rattle.packing_terms.specs.declared.Rel.{Rel as PlainRel};
 ghost use Rattle.packing_terms.specs.Packing.{box_count};
 ghost use Rattle.packing_terms.specs.Exclusions.{excludes};
 ghost use Rattle.relation_table.specs.Masks.{mask_has};
-ghost use Rattle.closure_terms.specs.States.{IsSized, HasRelationLeft, HasEmptyMask};
+ghost use Rattle.edge_state.specs.States.{IsSized, HasRelationLeft, HasEmptyMask};
 
 use box_instances::Instance;
 use edge_state::{EdgeState, Mask};

@@ -4,9 +4,9 @@ ghost use Rattle.packing_terms.specs.Packing.{box_count};
 ghost use Rattle.packing_terms.specs.Exclusions.{excludes};
 ghost use Rattle.packing_terms.specs.Rules.{Order};
 ghost use Rattle.edge_state.specs.BitRows.{HoldsBoxes, row_has};
-ghost use Rattle.closure_terms.specs.Instances.{OrdersFirst, OrdersSecond, OrdersCrossed};
-ghost use Rattle.closure_terms.specs.States.{IsSized};
-ghost use Rattle.closure_terms.specs.Work.{IsCovered, HasApplied};
+ghost use Rattle.edge_state.specs.Instances.{OrdersFirst, OrdersSecond, OrdersCrossed};
+ghost use Rattle.edge_state.specs.States.{IsSized};
+ghost use Rattle.edge_state.specs.Work.{IsCovered, HasApplied};
 
 use crate::candidates::{beyond_orders_from, beyond_orders_to};
 use crate::excluding::{exclude_between, exclude_both};

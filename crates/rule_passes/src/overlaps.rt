@@ -5,8 +5,8 @@ ghost use Rattle.packing_terms.specs.Packing.{dims, box_count};
 ghost use Rattle.packing_terms.specs.Exclusions.{excludes, IsJoined};
 ghost use Rattle.packing_terms.specs.Rules.{Apart};
 ghost use Rattle.edge_state.specs.BitRows.{HoldsBoxes};
-ghost use Rattle.closure_terms.specs.States.{IsSized};
-ghost use Rattle.closure_terms.specs.Work.{HasApplied};
+ghost use Rattle.edge_state.specs.States.{IsSized};
+ghost use Rattle.edge_state.specs.Work.{HasApplied};
 
 use crate::empties::is_empty_at;
 use crate::rows::either;

@@ -2,8 +2,8 @@
 ghost use Rattle.std.specs.Prelude.{◌≡◌, ◌<◌, ℕ};
 ghost use Rattle.packing_terms.specs.Packing.{dims, box_count};
 ghost use Rattle.packing_terms.specs.Rules.{Pair};
-ghost use Rattle.closure_terms.specs.States.{IsSized};
-ghost use Rattle.closure_terms.specs.Work.{HasApplied};
+ghost use Rattle.edge_state.specs.States.{IsSized};
+ghost use Rattle.edge_state.specs.Work.{HasApplied};
 
 use crate::empties::is_empty_at;
 use crate::overlaps::aparts;

@@ -9,12 +9,12 @@ ghost use Rattle.packing_terms.specs.declared.Rel.TheVariants.{Overlap, Before, 
 ghost use Rattle.packing_terms.specs.Relations.{mirror};
 ghost use Rattle.packing_terms.specs.Packing.{box_count};
 ghost use Rattle.packing_terms.specs.Exclusions.{excludes};
-ghost use Rattle.rule_terms.specs.Places.{HasNoEmptyMask};
+ghost use Rattle.packing_terms.specs.Places.{HasNoEmptyMask};
 ghost use Rattle.relation_table.specs.Masks.{mask_has};
 ghost use Rattle.edge_state.specs.BitRows.{HoldsBoxes, row_has};
-ghost use Rattle.closure_terms.specs.Instances.{Chords, Composes, Cycles, OrdersCrossed, Triples};
-ghost use Rattle.closure_terms.specs.States.{IsSized};
-ghost use Rattle.closure_terms.specs.Work.{HasApplied};
+ghost use Rattle.edge_state.specs.Instances.{Chords, Composes, Cycles, OrdersCrossed, Triples};
+ghost use Rattle.edge_state.specs.States.{IsSized};
+ghost use Rattle.edge_state.specs.Work.{HasApplied};
 ghost use Rattle.rule_passes.specs.Reached.{BoundsSides, IsReachedOrdered, IsReachedBoth};
 
 use crate::candidates::beyond_compositions;

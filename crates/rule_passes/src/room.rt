@@ -4,12 +4,12 @@ ghost use Rattle.packing_terms.specs.Limits.{IsDimCount, IsBoxCount};
 ghost use Rattle.packing_terms.specs.Packing.{dims, box_count};
 ghost use Rattle.packing_terms.specs.Exclusions.{excludes};
 ghost use Rattle.packing_terms.specs.Closure.{IsStable};
-ghost use Rattle.rule_terms.specs.Applied.{Extends};
-ghost use Rattle.rule_terms.specs.Places.{HasNoEmptyMask};
+ghost use Rattle.packing_terms.specs.Applied.{Extends};
+ghost use Rattle.packing_terms.specs.Places.{HasNoEmptyMask};
 ghost use Rattle.edge_state.specs.BitRows.{IsRowWidth, row_has};
 ghost use Rattle.edge_state.specs.Edges.{oldest};
-ghost use Rattle.closure_terms.specs.States.{HasEmptyMask};
-ghost use Rattle.closure_terms.specs.Work.{IsUpToDate, IsChainUpToDate};
+ghost use Rattle.edge_state.specs.States.{HasEmptyMask};
+ghost use Rattle.edge_state.specs.Work.{IsUpToDate, IsChainUpToDate};
 ghost use Rattle.orientation_rules.specs.CachedChainWeights.{PlainLevels};
 ghost use Rattle.rule_passes.specs.Rooms.{AreKept, AreMade};
 

@@ -5,7 +5,7 @@ ghost use Rattle.packing_terms.specs.Exclusions.{excludes};
 ghost use Rattle.packing_terms.specs.Limits.{IsBoxCount};
 ghost use Rattle.edge_state.specs.BitRows.{IsRowWidth, HoldsBoxes, row_has};
 ghost use Rattle.edge_state.specs.Edges.{is_other_box};
-ghost use Rattle.closure_terms.specs.States.{IsSized};
+ghost use Rattle.edge_state.specs.States.{IsSized};
 ghost use Rattle.rule_passes.specs.Reached.{IsGoneOf};
 
 use box_instances::Instance;

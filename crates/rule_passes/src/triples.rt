@@ -7,9 +7,9 @@ ghost use Rattle.packing_terms.specs.Exclusions.{excludes, IsApart};
 ghost use Rattle.packing_terms.specs.Rules.{Triple};
 ghost use Rattle.edge_state.specs.BitRows.{HoldsBoxes, row_has};
 ghost use Rattle.edge_state.specs.Edges.{is_other_box};
-ghost use Rattle.closure_terms.specs.Instances.{Triples};
-ghost use Rattle.closure_terms.specs.States.{IsSized};
-ghost use Rattle.closure_terms.specs.Work.{HasApplied};
+ghost use Rattle.edge_state.specs.Instances.{Triples};
+ghost use Rattle.edge_state.specs.States.{IsSized};
+ghost use Rattle.edge_state.specs.Work.{HasApplied};
 ghost use Rattle.rule_passes.specs.Reached.{BoundsSides};
 
 use crate::candidates::beyond_triples;

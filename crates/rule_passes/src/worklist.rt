@@ -4,13 +4,13 @@ ghost use Rattle.packing_terms.specs.Packing.{dims, box_count};
 ghost use Rattle.packing_terms.specs.declared.Rel.{Rel as PlainRel};
 ghost use Rattle.packing_terms.specs.Exclusions.{excludes};
 ghost use Rattle.relation_table.specs.Masks.{mask_has};
-ghost use Rattle.rule_terms.specs.Applied.{Extends};
+ghost use Rattle.packing_terms.specs.Applied.{Extends};
 ghost use Rattle.edge_state.specs.BitRows.{HoldsBoxes, row_has};
 ghost use Rattle.edge_state.specs.Answers.{IsChangeAfter};
 ghost use Rattle.edge_state.specs.Edges.{oldest};
-ghost use Rattle.closure_terms.specs.States.{IsSized, HasEmptyMask};
-ghost use Rattle.closure_terms.specs.Work.{IsUnordered, IsNextMark};
-ghost use Rattle.closure_terms.specs.Work.{IsWorklistDone};
+ghost use Rattle.edge_state.specs.States.{IsSized, HasEmptyMask};
+ghost use Rattle.edge_state.specs.Work.{IsUnordered, IsNextMark};
+ghost use Rattle.edge_state.specs.Work.{IsWorklistDone};
 ghost use Rattle.early_chains.specs.Lines.{IsTooLong};
 
 use crate::dispatch::spread;

@@ -5,7 +5,7 @@ use Rattle.packing_terms.specs.Packing.{PlainInstance, dims, box_count, side}
 use Rattle.packing_terms.specs.Sums.{product_below, below}
 use Rattle.packing_terms.specs.Rank.{volume, insert_by_volume, pairs_after, ranked_pairs}
 use Rattle.class_search.specs.Deciders.{decider_of}
-use Rattle.front_terms.specs.Fronts.{with_container}
+use Rattle.verdict_terms.specs.Fronts.{with_container}
 
 module _ (instance : PlainInstance) (plane : dims instance ≡ 2) (w h : ℕ) where
   same_volume : (v : ℕ) → volume (with_container instance w h) v ≡ volume instance v

@@ -6,7 +6,7 @@ use Rattle.std.specs.Prelude.{if◌then◌else◌}
 use Rattle.packing_terms.specs.Packing.{PlainInstance, dims, box_count, written_container}
 use Rattle.packing_terms.specs.Limits.{IsInternalInstance}
 use Rattle.packing_terms.specs.Tokens.{PlainToken}
-use Rattle.front_terms.specs.Fronts.{IsClaimed}
+use Rattle.verdict_terms.specs.Fronts.{IsClaimed}
 use Rattle.answer_terms.specs.Walks.{PlainCorner, PlainPoint, PlainFront, front_after, whole_front, sizes, walk_on}
 use Rattle.answer_terms.specs.Walks.{size_answer, front_walk}
 use Rattle.answer_terms.specs.Asked.{HasContainerPastBudget}

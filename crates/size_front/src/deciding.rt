@@ -10,9 +10,9 @@ ghost use Rattle.answer_terms.specs.Walks.{size_answer};
 
 use box_instances::{Instance, NoMemory};
 use class_search::{Decider, decide};
+use front_check::with_container;
 use level_search::{Level, level_of};
 use proof_tree::Outcome;
-use sized_instances::with_container;
 use std::alloc::Global;
 use std::sync::Wait;
 use std::thread::Threads;

@@ -1,7 +1,7 @@
 //! The walk along the front.
 ghost use Rattle.std.specs.Prelude.{◌≡◌, ◌≤◌, ◌+◌, ◌-◌, ◌*◌, ◌/◌, ◌^◌, ◌↔◌, false, true, map, IfOk};
 ghost use Rattle.packing_terms.specs.Packing.{dims, box_count};
-ghost use Rattle.front_terms.specs.Fronts.{IsClaimed};
+ghost use Rattle.verdict_terms.specs.Fronts.{IsClaimed};
 ghost use Rattle.answer_terms.specs.Walks.{sizes, front_walk};
 ghost use Rattle.answer_terms.specs.Asked.{HasContainerPastBudget};
 ghost use Rattle.size_front.specs.Plain.{plain_front, plain_point};

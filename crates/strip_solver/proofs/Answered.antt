@@ -13,8 +13,8 @@ use Rattle.packing_terms.proofs.TooLarge.{too_wide}
 use Rattle.tree_terms.specs.Levels.{PlainReached, HasBothCertificates, first_heights}
 use Rattle.tree_terms.specs.RunEnds.{IsRisingEnd}
 use Rattle.tree_terms.proofs.Optima.{stack_small}
-use Rattle.reduced_levels.specs.Heights.{height_run_from, DecideHeights}
-use Rattle.reduced_levels.proofs.Heights.{keeps_from, least_from, end_from, spent_from, enough_from}
+use Rattle.tree_terms.specs.Heights.{height_run_from, DecideHeights}
+use Rattle.tree_terms.proofs.Heights.{keeps_from, least_from, end_from, spent_from, enough_from}
 use Rattle.strip_solver.specs.declared.strip.Strip.{Strip}
 use Rattle.strip_solver.specs.declared.strip.Strip.TheVariants.{Least, Between, NoneFits}
 use Rattle.strip_solver.specs.Strips.{Tells, IsAnswerFrom, IsTrueStripFrom, IsSpentExactlyFrom, IsFinal}

@@ -3,7 +3,7 @@ use Rattle.std.proofs.Common.{◌≡◌, ℕ, refl, ap, List, []}
 use Rattle.packing_terms.specs.Packing.{PlainInstance}
 use Rattle.packing_terms.specs.Goals.{with_last_side}
 use Rattle.packing_terms.specs.Rank.{pairs_after, ranked_pairs}
-use Rattle.symmetry_terms.proofs.Levels.{same_dims, same_rank}
+use Rattle.packing_terms.proofs.Levels.{same_dims, same_rank}
 use Rattle.class_search.specs.Deciders.{decider_of}
 
 -- the rank of the boxes doesn't depend on the last container side

@@ -7,7 +7,7 @@ use Rattle.packing_terms.specs.TooLarge.{IsFirstTooWide}
 use Rattle.packing_terms.specs.Refutation.{Refutes}
 use Rattle.packing_terms.specs.Tokens.{PlainToken}
 use Rattle.tree_terms.specs.Levels.{PlainReached}
-use Rattle.reduced_levels.specs.Heights.{height_run_from, HasHeightPastBudgetFrom}
+use Rattle.tree_terms.specs.Heights.{height_run_from, HasHeightPastBudgetFrom}
 use Rattle.strip_solver.specs.declared.strip.Strip.{Strip}
 use Rattle.strip_solver.specs.declared.strip.Strip.TheVariants.{Least, Between, NoneFits}
 

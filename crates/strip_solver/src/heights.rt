@@ -5,7 +5,7 @@ ghost use Rattle.packing_terms.specs.Goals.{with_last_side};
 ghost use Rattle.tree_terms.specs.Trees.{outcome, under_budget};
 ghost use Rattle.tree_terms.specs.ClassTree.{class_tree};
 ghost use Rattle.tree_terms.specs.Levels.{first_heights};
-ghost use Rattle.reduced_levels.specs.Heights.{height_answer_from};
+ghost use Rattle.tree_terms.specs.Heights.{height_answer_from};
 ghost use Rattle.work_share.specs.Outcomes.{plain_outcome};
 ghost use Rattle.level_search.specs.Runs.{plain_level};
 ghost use Rattle.strip_solver.specs.Deciding.{IsReadyFor};

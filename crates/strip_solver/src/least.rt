@@ -4,9 +4,9 @@ ghost use Rattle.packing_terms.specs.Packing.{dims, box_count};
 ghost use Rattle.packing_terms.specs.Exclusions.{AreAtEdges};
 ghost use Rattle.packing_terms.specs.Goals.{HasTooWideBox, with_last_side};
 ghost use Rattle.packing_terms.specs.Limits.{max_height};
-ghost use Rattle.symmetry_terms.specs.Facts.{symmetry_facts};
+ghost use Rattle.packing_terms.specs.Facts.{symmetry_facts};
 ghost use Rattle.tree_terms.specs.Levels.{first_heights};
-ghost use Rattle.reduced_levels.specs.Heights.{height_run_from, DecideHeights};
+ghost use Rattle.tree_terms.specs.Heights.{height_run_from, DecideHeights};
 ghost use Rattle.level_search.specs.Runs.{plain_reached};
 ghost use Rattle.strip_solver.specs.Strips.{Tells, IsAnswer, IsTrueStrip, IsSpentExactly, IsAnswerFrom, IsTrueStripFrom, IsSpentExactlyFrom, IsFinal};
 

@@ -6,15 +6,15 @@ use Rattle.packing_terms.specs.Tokens.{PlainToken}
 use Rattle.packing_terms.specs.Refutation.{Refutes}
 use Rattle.packing_terms.proofs.Internal.{internal_sides, some_dimension}
 use Rattle.packing_terms.proofs.Refuted.{refutes_sound}
-use Rattle.scale_terms.proofs.Excess.{excess_law}
+use Rattle.packing_terms.proofs.Excess.{excess_law}
 use Rattle.tree_terms.specs.Trees.{PlainOutcome, Decided, Past, Verdict, Yes, No, outcome, count_of, under_budget}
 use Rattle.tree_terms.specs.Search.{IsRightUnder}
 use Rattle.tree_terms.specs.ClassTree.{class_tree}
 use Rattle.tree_terms.proofs.Decisions.{class_tree_right}
 use Rattle.class_search.specs.Right.{IsRight, Decides}
-use Rattle.symmetry_terms.specs.Facts.{symmetry_facts}
-use Rattle.symmetry_terms.proofs.Members.{facts_at_edges}
-use Rattle.symmetry_terms.proofs.Respected.{some_packing_respects}
+use Rattle.packing_terms.specs.Facts.{symmetry_facts}
+use Rattle.packing_terms.proofs.SymmetryMembers.{facts_at_edges}
+use Rattle.packing_terms.proofs.Respected.{some_packing_respects}
 
 module _ (instance : PlainInstance) (limits : IsInternalInstance instance) (scales : Bool) (budget : ℕ) where
   verdict_right : IsRightUnder instance (symmetry_facts instance)

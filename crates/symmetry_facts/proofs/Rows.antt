@@ -3,8 +3,8 @@ use Rattle.std.proofs.Common.{◌≡◌, refl, [], ◌∷◌, true, false}
 use Rattle.packing_terms.specs.Tokens.PlainToken.{Rules}
 use Rattle.tree_terms.specs.Trees.{Yes, No, outcome}
 use Rattle.tree_terms.specs.ClassTree.{class_tree}
-use Rattle.symmetry_terms.specs.Facts.{symmetry_facts}
-use Rattle.symmetry_terms.proofs.Rows.{two, row_of_four}
+use Rattle.packing_terms.specs.Facts.{symmetry_facts}
+use Rattle.packing_terms.proofs.SymmetryRows.{two, row_of_four}
 
 two_reduced : outcome (class_tree two (symmetry_facts two) true) ≡ Yes (0 ∷ 0 ∷ 0 ∷ 4 ∷ []) 0
 two_reduced = refl

@@ -5,7 +5,7 @@ ghost use Rattle.tree_terms.specs.Trees.{outcome, under_budget};
 ghost use Rattle.tree_terms.specs.ClassTree.{class_tree};
 ghost use Rattle.work_share.specs.Outcomes.{plain_outcome};
 ghost use Rattle.class_search.specs.Right.{IsRight, Decides, IsYesOrNo};
-ghost use Rattle.symmetry_terms.specs.Facts.{symmetry_facts};
+ghost use Rattle.packing_terms.specs.Facts.{symmetry_facts};
 
 use box_instances::{Instance, NoMemory};
 use class_search::ClassTree;

@@ -9,7 +9,7 @@ use Rattle.packing_terms.specs.Sums.{below}
 use Rattle.packing_terms.proofs.Members.{any_at, any_from, all_at, all_from, in_range, range_in}
 use Rattle.packing_terms.proofs.Ranges.{range_split}
 use Rattle.packing_terms.specs.Rank.{in_order}
-use Rattle.symmetry_terms.specs.Facts.{first_two}
+use Rattle.packing_terms.specs.Facts.{first_two}
 
 -- ---- tests below a number
 

@@ -20,9 +20,9 @@ use Rattle.packing_terms.proofs.Members.{IsIn, in_range, range_in, in_flat_map, 
 use Rattle.packing_terms.proofs.Found.{find_some, find_none}
 use Rattle.packing_terms.proofs.Listed.{first_exceeds, container_wide}
 use Rattle.packing_terms.proofs.Closures.{derives_more}
-use Rattle.rule_terms.specs.Rounds.{closure, has_empty_mask}
+use Rattle.packing_terms.specs.Rounds.{closure, has_empty_mask}
 use Rattle.packing_terms.specs.Sums.{below}
-use Rattle.rule_terms.proofs.RoundsLemmas.{closure_is, closure_stable, few_passing}
+use Rattle.packing_terms.proofs.RoundsLemmas.{closure_is, closure_stable, few_passing}
 use Rattle.tree_terms.specs.Trees.{SearchTree, Settled}
 use Rattle.packing_terms.specs.Rank.{ranked_pairs}
 use Rattle.tree_terms.specs.InnerTree.{is_settled, is_unsettled, is_apart_somewhere, settled_places, exclusion_at_pair}
@@ -34,7 +34,7 @@ use Rattle.tree_terms.specs.Search.{IsSearch}
 use Rattle.packing_terms.proofs.RankLemmas.{ranked_rise, pair_ranked}
 use Rattle.tree_terms.proofs.SettledPlaces.{settled_pack}
 use Rattle.tree_terms.proofs.Nodes.{excluded_edge, closure_edges, opens, below_child, settled_pair}
-use Rattle.rule_terms.proofs.Conflicts.{closed_back, closed_there, stays_open, calm, stormy, full_masks}
+use Rattle.packing_terms.proofs.Conflicts.{closed_back, closed_there, stays_open, calm, stormy, full_masks}
 use Rattle.tree_terms.proofs.Splits.{order_there, apart_there}
 use Rattle.tree_terms.proofs.Searches.{search_same}
 

@@ -12,11 +12,11 @@ use Rattle.packing_terms.specs.Closure.{IsDerived, AreDerived, Derives}
 use Rattle.packing_terms.proofs.Monotone.{follows_more}
 use Rattle.packing_terms.proofs.Closures.{derives_more}
 use Rattle.packing_terms.proofs.Sets.{same_bool}
-use Rattle.rule_terms.specs.Rounds.{closure}
-use Rattle.rule_terms.proofs.RoundsLemmas.{closure_is, closure_stable}
+use Rattle.packing_terms.specs.Rounds.{closure}
+use Rattle.packing_terms.proofs.RoundsLemmas.{closure_is, closure_stable}
 use Rattle.tree_terms.specs.Trees.{SearchTree}
 use Rattle.tree_terms.specs.InnerTree.{closed_node, node_tree}
-use Rattle.rule_terms.proofs.Conflicts.{closed_there, closed_back}
+use Rattle.packing_terms.proofs.Conflicts.{closed_there, closed_back}
 
 module _ (instance : PlainInstance) where
   -- what follows by one rule from what has a derivation has a derivation

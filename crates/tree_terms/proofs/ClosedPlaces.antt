@@ -8,12 +8,12 @@ use Rattle.packing_terms.specs.Scales.{SidesFit}
 use Rattle.packing_terms.specs.Exclusions.{excludes, AreAtEdges}
 use Rattle.packing_terms.specs.Closure.{HasConflict}
 use Rattle.packing_terms.proofs.Sets.{excludes_symmetric}
-use Rattle.rule_terms.specs.Rounds.{closure, has_empty_mask}
-use Rattle.rule_terms.specs.Places.{IsOrdered, IsGreatestEnd}
-use Rattle.rule_terms.proofs.RoundsLemmas.{closure_stable}
+use Rattle.packing_terms.specs.Rounds.{closure, has_empty_mask}
+use Rattle.packing_terms.specs.Places.{IsOrdered, IsGreatestEnd}
+use Rattle.packing_terms.proofs.RoundsLemmas.{closure_stable}
 use Rattle.tree_terms.specs.InnerTree.{settled_places}
 use Rattle.tree_terms.proofs.Nodes.{excluded_edge, closure_edges}
-use Rattle.rule_terms.proofs.Conflicts.{stormy, full_masks}
+use Rattle.packing_terms.proofs.Conflicts.{stormy, full_masks}
 use Rattle.tree_terms.proofs.SettledPlaces.{settled_ends, settled_pack}
 
 module _ (instance : PlainInstance) (es : List Exclusion) (sides : HasPositiveSides instance) (fit : SidesFit instance)

@@ -23,9 +23,9 @@ use Rattle.packing_terms.proofs.Sets.{or_true}
 use Rattle.packing_terms.proofs.Members.{IsIn, in_flat_map, in_map, in_range, range_in}
 use Rattle.packing_terms.proofs.Found.{find_some}
 use Rattle.packing_terms.proofs.Lengths.{length_parts}
-use Rattle.rule_terms.specs.Rounds.{closure, has_empty_mask}
+use Rattle.packing_terms.specs.Rounds.{closure, has_empty_mask}
 use Rattle.packing_terms.specs.Sums.{below}
-use Rattle.rule_terms.proofs.RoundsLemmas.{closure_keeps, excludes_own}
+use Rattle.packing_terms.proofs.RoundsLemmas.{closure_keeps, excludes_own}
 use Rattle.tree_terms.specs.Trees.{SearchTree, Verdict, Yes, No, no_tokens, join, outcome, count_of}
 use Rattle.packing_terms.specs.Rank.{ranked_pairs}
 use Rattle.tree_terms.specs.InnerTree.{is_settled, is_unsettled, is_apart_somewhere, exclusion_at_pair, has_order_mask}

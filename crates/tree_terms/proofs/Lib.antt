@@ -32,3 +32,4 @@ pub mod RowsStrip
 pub mod RowsBins
 pub mod RowsChoice
 pub mod RowsKinds
+pub mod Heights

@@ -16,9 +16,9 @@ use Rattle.packing_terms.specs.Tokens.PlainToken.{Rules}
 use Rattle.packing_terms.proofs.Sets.{or_true, same_bool}
 use Rattle.packing_terms.proofs.Members.{range_in}
 use Rattle.packing_terms.proofs.Found.{find_some}
-use Rattle.rule_terms.specs.Rounds.{closure, has_empty_mask}
+use Rattle.packing_terms.specs.Rounds.{closure, has_empty_mask}
 use Rattle.packing_terms.specs.Sums.{below}
-use Rattle.rule_terms.proofs.RoundsLemmas.{few_passing}
+use Rattle.packing_terms.proofs.RoundsLemmas.{few_passing}
 use Rattle.tree_terms.specs.Trees.{SearchTree, Settled, Refuted, Split}
 use Rattle.packing_terms.specs.Rank.{ranked_pairs}
 use Rattle.tree_terms.specs.InnerTree.{SplitNode, is_settled, is_unsettled, is_apart_somewhere, settled_places}
@@ -26,7 +26,7 @@ use Rattle.tree_terms.specs.InnerTree.{exclusion_at_pair, node_tree, node_of, cl
 use Rattle.tree_terms.specs.InnerTree.{has_apart_mask, chosen_split, split_at, split_tree, full_depth, tree_below}
 use Rattle.packing_terms.proofs.RankLemmas.{ranked_rise}
 use Rattle.tree_terms.proofs.Nodes.{opens, below_child}
-use Rattle.rule_terms.proofs.Conflicts.{calm, stormy}
+use Rattle.packing_terms.proofs.Conflicts.{calm, stormy}
 use Rattle.tree_terms.proofs.Splits.{order_there, apart_there}
 use Rattle.tree_terms.proofs.Closed.{same_tree}
 use Rattle.tree_terms.proofs.ClassSearch.{one_open}

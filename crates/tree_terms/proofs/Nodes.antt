@@ -11,12 +11,12 @@ use Rattle.packing_terms.specs.Rules.{Follows}
 use Rattle.packing_terms.specs.Closure.{IsDerivation, IsSubset, IsSymmetric}
 use Rattle.packing_terms.proofs.Sets.{of_own}
 use Rattle.packing_terms.proofs.Members.{IsIn, any_from, range_in}
-use Rattle.rule_terms.specs.Rounds.{closure, all_exclusions}
+use Rattle.packing_terms.specs.Rounds.{closure, all_exclusions}
 use Rattle.packing_terms.specs.Sums.{below}
-use Rattle.rule_terms.specs.Steps.{open_count}
-use Rattle.rule_terms.proofs.RoundsLemmas.{closure_keeps, rounds_derived, given, follows_edge, length_filter_fewer}
-use Rattle.rule_terms.proofs.RoundsLemmas.{in_all, excludes_own}
-use Rattle.rule_terms.proofs.Drawn.{is_not, not_so}
+use Rattle.packing_terms.specs.Steps.{open_count}
+use Rattle.packing_terms.proofs.RoundsLemmas.{closure_keeps, rounds_derived, given, follows_edge, length_filter_fewer}
+use Rattle.packing_terms.proofs.RoundsLemmas.{in_all, excludes_own}
+use Rattle.packing_terms.proofs.Drawn.{is_not, not_so}
 use Rattle.tree_terms.specs.InnerTree.{is_settled}
 
 module _ (instance : PlainInstance) where

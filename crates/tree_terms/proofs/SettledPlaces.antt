@@ -16,11 +16,11 @@ use Rattle.packing_terms.specs.Closure.{IsStable, IsSymmetric}
 use Rattle.packing_terms.proofs.Members.{IsIn, in_filter, filter_in, in_range}
 use Rattle.packing_terms.proofs.InBins.{joined_at}
 use Rattle.packing_terms.proofs.Lengths.{filter_short, length_parts}
-use Rattle.rule_terms.specs.Rounds.{is_surely_before}
+use Rattle.packing_terms.specs.Rounds.{is_surely_before}
 use Rattle.packing_terms.specs.Sums.{below}
-use Rattle.rule_terms.specs.Places.{IsOrdered, HasNoEmptyMask, IsGreatestEnd}
-use Rattle.rule_terms.proofs.RoundsLemmas.{length_filter_fewer}
-use Rattle.rule_terms.proofs.PlacesLemmas.{before_trans, places_pack}
+use Rattle.packing_terms.specs.Places.{IsOrdered, HasNoEmptyMask, IsGreatestEnd}
+use Rattle.packing_terms.proofs.RoundsLemmas.{length_filter_fewer}
+use Rattle.packing_terms.proofs.PlacesLemmas.{before_trans, places_pack}
 use Rattle.tree_terms.specs.InnerTree.{place_by, settled_places}
 
 -- the greatest of some numbers

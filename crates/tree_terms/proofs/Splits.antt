@@ -9,11 +9,11 @@ use Rattle.packing_terms.specs.Exclusions.{excludes, IsJoined}
 use Rattle.packing_terms.specs.Rules.{Apart, by_rule}
 use Rattle.packing_terms.proofs.Members.{IsIn, any_from, in_range, range_in}
 use Rattle.packing_terms.proofs.Found.{find_none, any_false}
-use Rattle.rule_terms.specs.Rounds.{closure, has_empty_mask}
+use Rattle.packing_terms.specs.Rounds.{closure, has_empty_mask}
 use Rattle.packing_terms.specs.Sums.{below}
-use Rattle.rule_terms.proofs.RoundsLemmas.{closure_stable}
+use Rattle.packing_terms.proofs.RoundsLemmas.{closure_stable}
 use Rattle.tree_terms.specs.InnerTree.{is_settled, is_apart_somewhere, has_order_mask, has_apart_mask}
-use Rattle.rule_terms.proofs.Conflicts.{all_three}
+use Rattle.packing_terms.proofs.Conflicts.{all_three}
 
 -- facts of three tests
 unsettled : (o b a : Bool) → o ≡ true → (o && not b && not a) ≡ false → (o && (b || a) && not (b && a)) ≡ false

@@ -12,9 +12,9 @@ use Rattle.packing_terms.proofs.Sets.{excludes_symmetric}
 use Rattle.packing_terms.proofs.Internal.{internal_sides, some_dimension}
 use Rattle.packing_terms.proofs.Lengths.{length_parts}
 use Rattle.packing_terms.specs.Sums.{below}
-use Rattle.rule_terms.specs.Places.{HasNoEmptyMask, IsGreatestEnd}
-use Rattle.rule_terms.specs.Steps.{IsTrail}
-use Rattle.rule_terms.proofs.UniqueEnds.{same_ends}
+use Rattle.packing_terms.specs.Places.{HasNoEmptyMask, IsGreatestEnd}
+use Rattle.packing_terms.specs.Steps.{IsTrail}
+use Rattle.packing_terms.proofs.UniqueEnds.{same_ends}
 use Rattle.tree_terms.specs.InnerTree.{place_by, settled_places}
 use Rattle.tree_terms.proofs.Nodes.{excluded_edge}
 use Rattle.tree_terms.proofs.SettledPlaces.{settled_ends}

@@ -9,7 +9,7 @@ use Rattle.packing_terms.specs.Packing.{PlainInstance, dims, box_count, containe
 use Rattle.packing_terms.specs.Exclusions.{excludes}
 use Rattle.packing_terms.specs.Tuples.{first_excess}
 use Rattle.packing_terms.specs.Tokens.PlainToken.{Rules, TooLarge, Scales}
-use Rattle.rule_terms.specs.Rounds.{closure, has_empty_mask}
+use Rattle.packing_terms.specs.Rounds.{closure, has_empty_mask}
 use Rattle.packing_terms.specs.Sums.{below}
 use Rattle.tree_terms.specs.Trees.{SearchTree, Refuted}
 use Rattle.tree_terms.specs.InnerTree.{tree_below}

@@ -18,7 +18,7 @@ use Rattle.packing_terms.specs.Packing.{PlainInstance, dims, box_count, side}
 use Rattle.packing_terms.specs.Exclusions.{Exclusions, excludes, exclusion_at, relation_count}
 use Rattle.packing_terms.specs.Tokens.{PlainToken}
 use Rattle.packing_terms.specs.Tokens.PlainToken.{Apart, Order, Rules}
-use Rattle.rule_terms.specs.Rounds.{closure, has_empty_mask, is_surely_before}
+use Rattle.packing_terms.specs.Rounds.{closure, has_empty_mask, is_surely_before}
 use Rattle.packing_terms.specs.Sums.{below}
 use Rattle.packing_terms.specs.Rank.{ranked_pairs}
 use Rattle.tree_terms.specs.Trees.{SearchTree, Settled, Refuted, Split}

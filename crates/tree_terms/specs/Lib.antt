@@ -8,3 +8,4 @@ pub mod RunEnds
 pub mod Search
 pub mod OuterSearch
 pub mod Paths
+pub mod Heights

@@ -6,6 +6,7 @@
 
 mod laws;
 mod level_laws;
+mod reduced_laws;
 
 pub use laws::{
     class_tree_decides, class_tree_is_a_search, closures_are_stable, counts_are_bounded,
@@ -16,4 +17,8 @@ pub use laws::{
 pub use level_laws::{
     first_levels_are_right, optima_are_there_exactly, run_of_levels, runs_are_spent_exactly,
     runs_find_the_optimum, runs_keep_both_certificates,
+};
+pub use reduced_laws::{
+    first_heights_are_right_from, heights_are_decided_from, reduced_levels_decide,
+    runs_from_exclusions,
 };

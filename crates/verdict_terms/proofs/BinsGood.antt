@@ -7,9 +7,9 @@ use Rattle.packing_terms.specs.Packing.{PlainInstance, dims, box_count, place}
 use Rattle.packing_terms.specs.Goals.{subset, in_bin, places_of, IsBinPacking}
 use Rattle.packing_terms.proofs.Members.{in_map, in_range}
 use Rattle.packing_terms.proofs.Lengths.{length_parts}
-use Rattle.check_terms.specs.declared.answers.PlaceVerdict.TheVariants.{Good}
-use Rattle.check_terms.specs.Placing.{place_verdict}
-use Rattle.check_terms.proofs.Places.{places_tested}
+use Rattle.verdict_terms.specs.declared.check_answers.PlaceVerdict.TheVariants.{Good}
+use Rattle.verdict_terms.specs.Placing.{place_verdict}
+use Rattle.verdict_terms.proofs.Places.{places_tested}
 use Rattle.verdict_terms.specs.Stages.{bins_reason}
 use Rattle.verdict_terms.proofs.PlacesTold.{group_good}
 

@@ -6,13 +6,13 @@ use Rattle.packing_terms.specs.OuterRefutation.{Choice as BoxChoice, no_choice}
 use Rattle.packing_terms.specs.OuterFeeding.{OpenNode, Outer}
 use Rattle.packing_terms.specs.Results.{◌>>=◌}
 use Rattle.text_terms.proofs.Good.{bind_ok}
-use Rattle.document_terms.specs.declared.claim.Claim.{Claim}
-use Rattle.bounded_terms.specs.BoundedRefutation.{BoundedToken, IsBoundedRefutation}
-use Rattle.bounded_terms.specs.BoundedJudging.{bounded_after, bounded_after_all}
-use Rattle.bounded_terms.specs.BoundedLines.{bounded_token_of}
-use Rattle.bounded_terms.proofs.BoundedJudged.{bounded_refutes}
-use Rattle.bounded_terms.proofs.BoundedBack.{bounded_lines_are_told}
-use Rattle.document_terms.proofs.Cuts.{cut_rest}
+use Rattle.text_terms.specs.declared.claim.Claim.{Claim}
+use Rattle.verdict_terms.specs.BoundedRefutation.{BoundedToken, IsBoundedRefutation}
+use Rattle.verdict_terms.specs.BoundedJudging.{bounded_after, bounded_after_all}
+use Rattle.verdict_terms.specs.BoundedLines.{bounded_token_of}
+use Rattle.verdict_terms.proofs.BoundedJudged.{bounded_refutes}
+use Rattle.verdict_terms.proofs.BoundedBack.{bounded_lines_are_told}
+use Rattle.text_terms.proofs.Cuts.{cut_rest}
 use Rattle.verdict_terms.specs.declared.heading.Heading.{Heading}
 use Rattle.verdict_terms.specs.declared.heading.Heading.TheVariants.{Answer, Reduced, Bounded}
 use Rattle.verdict_terms.specs.declared.reason.Reason.{Reason}

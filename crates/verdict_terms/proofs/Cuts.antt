@@ -7,18 +7,18 @@ use Rattle.packing_terms.specs.Packing.{PlainInstance, box_count}
 use Rattle.text_terms.specs.Lines.{same_bytes}
 use Rattle.packing_terms.specs.Results.{◌>>=◌}
 use Rattle.text_terms.proofs.Cut.{same_front, number_front}
-use Rattle.document_terms.specs.declared.claim.SolvingJob.{SolvingJob}
-use Rattle.document_terms.specs.declared.claim.Claim.{Claim}
-use Rattle.document_terms.specs.declared.claim.SolvingJob.TheVariants.{Fit, Strip, Bins, Knapsack}
-use Rattle.document_terms.specs.declared.claim.Claim.TheVariants.{NoHeight, NoBins, LeastHeight, HeightBetween}
-use Rattle.document_terms.specs.declared.claim.Claim.TheVariants.{LeastBins, BinsBetween, GreatestValue, ValueBetween}
+use Rattle.text_terms.specs.declared.claim.SolvingJob.{SolvingJob}
+use Rattle.text_terms.specs.declared.claim.Claim.{Claim}
+use Rattle.text_terms.specs.declared.claim.SolvingJob.TheVariants.{Fit, Strip, Bins, Knapsack}
+use Rattle.text_terms.specs.declared.claim.Claim.TheVariants.{NoHeight, NoBins, LeastHeight, HeightBetween}
+use Rattle.text_terms.specs.declared.claim.Claim.TheVariants.{LeastBins, BinsBetween, GreatestValue, ValueBetween}
 use Rattle.verdict_terms.specs.declared.heading.Heading.{Heading}
 use Rattle.verdict_terms.specs.declared.heading.Heading.TheVariants.{Answer, Reduced, Bounded}
 use Rattle.verdict_terms.specs.Reasons.{form}
 use Rattle.packing_terms.specs.Limits.{max_height}
-use Rattle.document_terms.specs.Claims.{max_worth}
+use Rattle.text_terms.specs.Claims.{max_worth}
 use Rattle.verdict_terms.specs.Numbers.{wanted_by, wanted, all_wanted, numbers_line}
-use Rattle.document_terms.proofs.Cuts.{cut_by, cut_rest}
+use Rattle.text_terms.proofs.Cuts.{cut_by, cut_rest}
 use Rattle.verdict_terms.specs.Results.{none_claim, one_claim, two_claim, claim_of}
 use Rattle.verdict_terms.specs.Stages.{is_word, job_named, heading_line}
 

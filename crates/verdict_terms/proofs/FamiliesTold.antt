@@ -5,13 +5,13 @@ use Rattle.packing_terms.specs.Packing.{PlainInstance, dims}
 use Rattle.packing_terms.specs.Goals.{with_last_side}
 use Rattle.packing_terms.specs.Results.{◌>>=◌}
 use Rattle.text_terms.proofs.Good.{bind_ok}
-use Rattle.document_terms.specs.declared.claim.Claim.{Claim}
-use Rattle.document_terms.proofs.Cuts.{cut_rest}
-use Rattle.family_terms.specs.FamilyRefutation.{FamilyToken, FamilyNode, Free}
-use Rattle.family_terms.specs.FamilyChecking.{families_after, families_after_all}
-use Rattle.family_terms.specs.FamilyLines.{family_token_of}
-use Rattle.family_terms.proofs.FamilyJudged.{families_refute}
-use Rattle.family_terms.proofs.FamilyBack.{family_lines_are_told}
+use Rattle.text_terms.specs.declared.claim.Claim.{Claim}
+use Rattle.text_terms.proofs.Cuts.{cut_rest}
+use Rattle.verdict_terms.specs.FamilyRefutation.{FamilyToken, FamilyNode, Free}
+use Rattle.verdict_terms.specs.FamilyChecking.{families_after, families_after_all}
+use Rattle.verdict_terms.specs.FamilyLines.{family_token_of}
+use Rattle.verdict_terms.proofs.FamilyJudged.{families_refute}
+use Rattle.verdict_terms.proofs.FamilyBack.{family_lines_are_told}
 use Rattle.verdict_terms.specs.declared.heading.Heading.{Heading}
 use Rattle.verdict_terms.specs.declared.heading.Heading.TheVariants.{Answer, Reduced, Bounded}
 use Rattle.verdict_terms.specs.declared.reason.Reason.{Reason}

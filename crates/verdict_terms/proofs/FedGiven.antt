@@ -13,12 +13,12 @@ use Rattle.packing_terms.specs.Tokens.PlainToken.{Apart, Order, Rules, TooLarge,
 use Rattle.packing_terms.specs.Tokens.PlainToken.{ValueShort, GlobalScales}
 use Rattle.packing_terms.specs.OuterRefutation.{Choice as BoxChoice}
 use Rattle.packing_terms.specs.OuterFeeding.{OpenNode}
-use Rattle.bounded_terms.specs.BoundedRefutation.{BoundedToken}
-use Rattle.bounded_terms.specs.BoundedJudging.{bounded_after}
-use Rattle.bounded_terms.specs.BoundedLines.{bounded_token_of}
-use Rattle.family_terms.specs.FamilyRefutation.{FamilyToken, FamilyNode, Free}
-use Rattle.family_terms.specs.FamilyChecking.{families_after}
-use Rattle.family_terms.specs.FamilyLines.{family_token_of}
+use Rattle.verdict_terms.specs.BoundedRefutation.{BoundedToken}
+use Rattle.verdict_terms.specs.BoundedJudging.{bounded_after}
+use Rattle.verdict_terms.specs.BoundedLines.{bounded_token_of}
+use Rattle.verdict_terms.specs.FamilyRefutation.{FamilyToken, FamilyNode, Free}
+use Rattle.verdict_terms.specs.FamilyChecking.{families_after}
+use Rattle.verdict_terms.specs.FamilyLines.{family_token_of}
 use Rattle.verdict_terms.proofs.BoundsTold.{bounded_token_cut}
 use Rattle.verdict_terms.proofs.FamiliesTold.{family_token_cut}
 use Rattle.text_terms.specs.Lines.{Line, line_of, text_lines, cut_line, cut_words, is_line_feed, same_bytes}
@@ -29,19 +29,19 @@ use Rattle.text_terms.specs.Feeding.{told_now, lines_fed, numbered_lines}
 use Rattle.text_terms.proofs.Cut.{same_front, words_cut}
 use Rattle.text_terms.proofs.Good.{good_start, line_good, parts_limits, bind_ok}
 use Rattle.text_terms.proofs.LinesFed.{texts_are_lines}
-use Rattle.check_terms.specs.Judging.{names_box}
-use Rattle.document_terms.specs.declared.claim.SolvingJob.{SolvingJob}
-use Rattle.document_terms.specs.declared.claim.Claim.{Claim}
-use Rattle.document_terms.specs.declared.claim.Claim.TheVariants.{Fitting, NotFitting, LeastHeight, HeightBetween}
-use Rattle.document_terms.specs.declared.claim.Claim.TheVariants.{NoHeight, LeastBins, BinsBetween, NoBins}
-use Rattle.document_terms.specs.declared.claim.Claim.TheVariants.{GreatestValue, ValueBetween}
+use Rattle.verdict_terms.specs.Judging.{names_box}
+use Rattle.text_terms.specs.declared.claim.SolvingJob.{SolvingJob}
+use Rattle.text_terms.specs.declared.claim.Claim.{Claim}
+use Rattle.text_terms.specs.declared.claim.Claim.TheVariants.{Fitting, NotFitting, LeastHeight, HeightBetween}
+use Rattle.text_terms.specs.declared.claim.Claim.TheVariants.{NoHeight, LeastBins, BinsBetween, NoBins}
+use Rattle.text_terms.specs.declared.claim.Claim.TheVariants.{GreatestValue, ValueBetween}
 use Rattle.verdict_terms.specs.declared.heading.Heading.{Heading}
 use Rattle.verdict_terms.specs.declared.heading.Heading.TheVariants.{Answer, Reduced, Bounded}
 use Rattle.verdict_terms.specs.declared.reason.Reason.{Reason}
 use Rattle.verdict_terms.specs.Reasons.{form, range}
 use Rattle.verdict_terms.specs.Numbers.{require, numbers_line, coordinates}
-use Rattle.document_terms.specs.TokenLines.{token_of}
-use Rattle.document_terms.proofs.Cuts.{token_cut, cut_rest}
+use Rattle.text_terms.specs.TokenLines.{token_of}
+use Rattle.text_terms.proofs.Cuts.{token_cut, cut_rest}
 use Rattle.verdict_terms.specs.Trees.{Refuted, ToFit, ToFitIn, ToReach, Tree, begun, is_whole, refuted_instance}
 use Rattle.verdict_terms.specs.Trees.{refuted_dims, tree_dims, tree_after}
 use Rattle.verdict_terms.specs.Results.{claim_of}

@@ -17,10 +17,10 @@ use Rattle.text_terms.proofs.FormRead.{filled_with, heads}
 use Rattle.text_terms.proofs.FormTold.{lines_have_form}
 use Rattle.text_terms.proofs.Good.{good_start, lines_limits, bind_ok}
 use Rattle.text_terms.proofs.FormNumbers.{word_is}
-use Rattle.document_terms.specs.declared.claim.SolvingJob.{SolvingJob}
-use Rattle.document_terms.specs.declared.claim.Claim.{Claim}
-use Rattle.document_terms.specs.Claims.{job_of, job_word}
-use Rattle.document_terms.specs.declared.claim.SolvingJob.TheVariants.{Fit, Strip, Bins, Knapsack}
+use Rattle.text_terms.specs.declared.claim.SolvingJob.{SolvingJob}
+use Rattle.text_terms.specs.declared.claim.Claim.{Claim}
+use Rattle.text_terms.specs.Claims.{job_of, job_word}
+use Rattle.text_terms.specs.declared.claim.SolvingJob.TheVariants.{Fit, Strip, Bins, Knapsack}
 use Rattle.verdict_terms.specs.declared.heading.Heading.{Heading}
 use Rattle.verdict_terms.specs.declared.heading.Heading.TheVariants.{Answer, Reduced, Bounded}
 use Rattle.verdict_terms.specs.Results.{claim_of}

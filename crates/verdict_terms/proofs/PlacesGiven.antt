@@ -12,12 +12,12 @@ use Rattle.packing_terms.specs.Goals.{subset, in_bin, places_of, worth, IsBinPac
 use Rattle.packing_terms.proofs.Members.{IsIn, map_in, range_in}
 use Rattle.packing_terms.proofs.Agreeing.{rising_later}
 use Rattle.packing_terms.specs.Results.{◌>>=◌}
-use Rattle.check_terms.specs.declared.answers.PlaceVerdict.{PlaceVerdict}
-use Rattle.check_terms.specs.declared.answers.PlaceVerdict.TheVariants.{Good, Outside, Overlap}
-use Rattle.check_terms.specs.Placing.{place_verdict}
-use Rattle.check_terms.specs.Judging.{names_box}
-use Rattle.check_terms.proofs.Places.{places_tested}
-use Rattle.document_terms.specs.declared.claim.Claim.{Claim}
+use Rattle.verdict_terms.specs.declared.check_answers.PlaceVerdict.{PlaceVerdict}
+use Rattle.verdict_terms.specs.declared.check_answers.PlaceVerdict.TheVariants.{Good, Outside, Overlap}
+use Rattle.verdict_terms.specs.Placing.{place_verdict}
+use Rattle.verdict_terms.specs.Judging.{names_box}
+use Rattle.verdict_terms.proofs.Places.{places_tested}
+use Rattle.text_terms.specs.declared.claim.Claim.{Claim}
 use Rattle.verdict_terms.specs.declared.heading.Heading.{Heading}
 use Rattle.verdict_terms.specs.declared.heading.Heading.TheVariants.{Answer}
 use Rattle.verdict_terms.specs.declared.reason.Reason.{Reason}

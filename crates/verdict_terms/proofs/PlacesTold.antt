@@ -13,12 +13,12 @@ use Rattle.packing_terms.specs.Goals.{IsBoxSet}
 use Rattle.packing_terms.proofs.Members.{IsIn, all_at, index_in}
 use Rattle.packing_terms.specs.Results.{◌>>=◌}
 use Rattle.text_terms.proofs.Good.{bind_ok}
-use Rattle.check_terms.specs.declared.answers.PlaceVerdict.{PlaceVerdict}
-use Rattle.check_terms.specs.declared.answers.PlaceVerdict.TheVariants.{Good, Outside, Overlap}
-use Rattle.check_terms.specs.Placing.{place_verdict}
-use Rattle.check_terms.specs.Judging.{names_box}
-use Rattle.check_terms.proofs.Places.{places_tested}
-use Rattle.document_terms.specs.declared.claim.Claim.{Claim}
+use Rattle.verdict_terms.specs.declared.check_answers.PlaceVerdict.{PlaceVerdict}
+use Rattle.verdict_terms.specs.declared.check_answers.PlaceVerdict.TheVariants.{Good, Outside, Overlap}
+use Rattle.verdict_terms.specs.Placing.{place_verdict}
+use Rattle.verdict_terms.specs.Judging.{names_box}
+use Rattle.verdict_terms.proofs.Places.{places_tested}
+use Rattle.text_terms.specs.declared.claim.Claim.{Claim}
 use Rattle.verdict_terms.specs.declared.heading.Heading.{Heading}
 use Rattle.verdict_terms.specs.declared.heading.Heading.TheVariants.{Answer}
 use Rattle.verdict_terms.specs.declared.reason.Reason.{Reason}

@@ -1,13 +1,13 @@
 -- Documents and the verdict on each, computed from the definitions.
 use Rattle.std.proofs.Common.{◌≡◌, refl, codes, [], Ok, Err}
 use Rattle.text_terms.specs.Lines.{number_of, same_bytes}
-use Rattle.check_terms.specs.declared.answers.RefuseCode.TheVariants.{Choice, Conflict, Side, Value, «Set»}
-use Rattle.document_terms.specs.declared.claim.Claim.TheVariants.{Fitting, NotFitting, LeastHeight, HeightBetween}
-use Rattle.document_terms.specs.declared.claim.Claim.TheVariants.{NoHeight, LeastBins, GreatestValue, ValueBetween}
+use Rattle.verdict_terms.specs.declared.check_answers.RefuseCode.TheVariants.{Choice, Conflict, Side, Value, «Set»}
+use Rattle.text_terms.specs.declared.claim.Claim.TheVariants.{Fitting, NotFitting, LeastHeight, HeightBetween}
+use Rattle.text_terms.specs.declared.claim.Claim.TheVariants.{NoHeight, LeastBins, GreatestValue, ValueBetween}
 use Rattle.verdict_terms.specs.Reasons.{form, range, after}
 use Rattle.verdict_terms.specs.declared.reason.Reason.TheVariants.{Text, Token, NoClaim, OutsideAt, OverlapAt}
 use Rattle.verdict_terms.specs.declared.reason.Reason.TheVariants.{TooLittle, TooShort}
-use Rattle.document_terms.specs.TokenLines.{token_of}
+use Rattle.text_terms.specs.TokenLines.{token_of}
 use Rattle.verdict_terms.specs.Results.{claim_of}
 use Rattle.verdict_terms.specs.Documents.{headed_verdict, document_verdict}
 

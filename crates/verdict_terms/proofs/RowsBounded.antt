@@ -2,10 +2,10 @@
 use Rattle.std.proofs.Common.{◌≡◌, refl, codes, [], ◌∷◌, Ok, Err}
 use Rattle.std.specs.Fmt.{decimal}
 use Rattle.text_terms.specs.Lines.{number_of, same_bytes}
-use Rattle.check_terms.specs.declared.answers.RefuseCode.TheVariants.{Excess, After}
-use Rattle.document_terms.specs.declared.claim.Claim.TheVariants.{GreatestValue}
-use Rattle.document_terms.specs.TokenLines.{token_of}
-use Rattle.bounded_terms.specs.BoundedLines.{bounded_token_of}
+use Rattle.verdict_terms.specs.declared.check_answers.RefuseCode.TheVariants.{Excess, After}
+use Rattle.text_terms.specs.declared.claim.Claim.TheVariants.{GreatestValue}
+use Rattle.text_terms.specs.TokenLines.{token_of}
+use Rattle.verdict_terms.specs.BoundedLines.{bounded_token_of}
 use Rattle.verdict_terms.specs.Reasons.{form}
 use Rattle.verdict_terms.specs.declared.reason.Reason.TheVariants.{Token, TooShort}
 use Rattle.verdict_terms.specs.Results.{claim_of}

@@ -2,10 +2,10 @@
 -- kerfs, repeats, bins, scales.
 use Rattle.std.proofs.Common.{◌≡◌, refl, codes, Ok, Err}
 use Rattle.text_terms.specs.Lines.{number_of, same_bytes}
-use Rattle.check_terms.specs.declared.answers.RefuseCode.TheVariants.{Choice, Conflict, Excess, «Set»}
-use Rattle.document_terms.specs.declared.claim.Claim.TheVariants.{Fitting, NotFitting, LeastHeight, LeastBins}
-use Rattle.document_terms.specs.declared.claim.Claim.TheVariants.{BinsBetween, NoBins, GreatestValue}
-use Rattle.document_terms.specs.TokenLines.{token_of}
+use Rattle.verdict_terms.specs.declared.check_answers.RefuseCode.TheVariants.{Choice, Conflict, Excess, «Set»}
+use Rattle.text_terms.specs.declared.claim.Claim.TheVariants.{Fitting, NotFitting, LeastHeight, LeastBins}
+use Rattle.text_terms.specs.declared.claim.Claim.TheVariants.{BinsBetween, NoBins, GreatestValue}
+use Rattle.text_terms.specs.TokenLines.{token_of}
 use Rattle.verdict_terms.specs.Reasons.{form, range, after}
 use Rattle.verdict_terms.specs.declared.reason.Reason.TheVariants.{Text, Token, OutsideAt, OverlapAt}
 use Rattle.verdict_terms.specs.Results.{claim_of}

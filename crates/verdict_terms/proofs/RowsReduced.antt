@@ -2,9 +2,9 @@
 use Rattle.std.proofs.Common.{◌≡◌, refl, codes, [], ◌∷◌, Ok, Err}
 use Rattle.std.specs.Fmt.{decimal}
 use Rattle.text_terms.specs.Lines.{number_of, same_bytes}
-use Rattle.check_terms.specs.declared.answers.RefuseCode.TheVariants.{Choice, Conflict}
-use Rattle.document_terms.specs.declared.claim.Claim.TheVariants.{Fitting, NotFitting, LeastHeight, NoHeight}
-use Rattle.document_terms.specs.TokenLines.{token_of}
+use Rattle.verdict_terms.specs.declared.check_answers.RefuseCode.TheVariants.{Choice, Conflict}
+use Rattle.text_terms.specs.declared.claim.Claim.TheVariants.{Fitting, NotFitting, LeastHeight, NoHeight}
+use Rattle.text_terms.specs.TokenLines.{token_of}
 use Rattle.verdict_terms.specs.Reasons.{form}
 use Rattle.verdict_terms.specs.declared.reason.Reason.TheVariants.{Token, NoClaim, OverlapAt, TooShort}
 use Rattle.verdict_terms.specs.Results.{claim_of}

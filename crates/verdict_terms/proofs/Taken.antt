@@ -9,7 +9,7 @@ use Rattle.text_terms.specs.Form.{AreClean, filled_lines}
 use Rattle.text_terms.proofs.Keys.{same_bytes_Decides}
 use Rattle.text_terms.proofs.FormRead.{filled_with, clean_parts}
 use Rattle.text_terms.proofs.Good.{bind_ok}
-use Rattle.document_terms.specs.declared.claim.Claim.{Claim}
+use Rattle.text_terms.specs.declared.claim.Claim.{Claim}
 use Rattle.verdict_terms.specs.declared.reason.Reason.{Reason}
 use Rattle.verdict_terms.specs.Reasons.{form, range}
 use Rattle.verdict_terms.specs.Form.{AreCoordinates}

@@ -8,11 +8,11 @@ use Rattle.packing_terms.specs.OuterRefutation.{no_choice}
 use Rattle.packing_terms.specs.OuterFeeding.{Outer}
 use Rattle.packing_terms.specs.Results.{◌>>=◌}
 use Rattle.text_terms.proofs.Good.{bind_ok}
-use Rattle.check_terms.specs.declared.answers.RefuseCode.{RefuseCode}
-use Rattle.check_terms.specs.Checking.{inner_after, bins_after, value_after, nodes_after_all}
-use Rattle.check_terms.proofs.Refuting.{inner_refutes, bins_refute, value_refutes}
-use Rattle.document_terms.specs.declared.claim.Claim.{Claim}
-use Rattle.document_terms.specs.TokenLines.{token_of}
+use Rattle.verdict_terms.specs.declared.check_answers.RefuseCode.{RefuseCode}
+use Rattle.verdict_terms.specs.Checking.{inner_after, bins_after, value_after, nodes_after_all}
+use Rattle.verdict_terms.proofs.Refuting.{inner_refutes, bins_refute, value_refutes}
+use Rattle.text_terms.specs.declared.claim.Claim.{Claim}
+use Rattle.text_terms.specs.TokenLines.{token_of}
 use Rattle.verdict_terms.specs.Trees.{Refuted, ToFit, ToFitIn, ToReach, refuted_dims, AreRefutation, Tree, InnerTree}
 use Rattle.verdict_terms.specs.Trees.{BinTree, ValueTree, begun, tree_dims, map_ok, tree_after, is_whole}
 use Rattle.verdict_terms.specs.Stages.{is_word, tree_token, coded, grown_tree, tree_line}

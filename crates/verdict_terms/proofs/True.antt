@@ -14,17 +14,17 @@ use Rattle.packing_terms.proofs.TooLarge.{too_wide, too_large}
 use Rattle.packing_terms.proofs.Refuted.{none_fits}
 use Rattle.packing_terms.proofs.BinsRefuted.{none_fits_bins}
 use Rattle.packing_terms.proofs.ValueRefuted.{none_reaches}
-use Rattle.bounded_terms.proofs.BoundedSound.{none_reaches_bounded}
-use Rattle.family_terms.proofs.FamilySound.{none_fits_families}
-use Rattle.scale_terms.proofs.Excess.{excess_law}
-use Rattle.document_terms.specs.declared.claim.Claim.{Claim}
-use Rattle.document_terms.specs.Claims.{IsTrueOf}
-use Rattle.document_terms.specs.declared.claim.Claim.TheVariants.{Fitting, NotFitting, LeastHeight, HeightBetween}
-use Rattle.document_terms.specs.declared.claim.Claim.TheVariants.{NoHeight, LeastBins, BinsBetween, NoBins}
-use Rattle.document_terms.specs.declared.claim.Claim.TheVariants.{GreatestValue, ValueBetween}
+use Rattle.verdict_terms.proofs.BoundedSound.{none_reaches_bounded}
+use Rattle.verdict_terms.proofs.FamilySound.{none_fits_families}
+use Rattle.packing_terms.proofs.Excess.{excess_law}
+use Rattle.text_terms.specs.declared.claim.Claim.{Claim}
+use Rattle.text_terms.specs.Claims.{IsTrueOf}
+use Rattle.text_terms.specs.declared.claim.Claim.TheVariants.{Fitting, NotFitting, LeastHeight, HeightBetween}
+use Rattle.text_terms.specs.declared.claim.Claim.TheVariants.{NoHeight, LeastBins, BinsBetween, NoBins}
+use Rattle.text_terms.specs.declared.claim.Claim.TheVariants.{GreatestValue, ValueBetween}
 use Rattle.verdict_terms.specs.declared.heading.Heading.{Heading}
 use Rattle.verdict_terms.specs.declared.heading.Heading.TheVariants.{Answer, Reduced, Bounded}
-use Rattle.symmetry_terms.proofs.Levels.{none_fits_under, none_fits_at}
+use Rattle.packing_terms.proofs.Levels.{none_fits_under, none_fits_at}
 use Rattle.verdict_terms.proofs.FormGiven.{document_limits}
 use Rattle.verdict_terms.specs.Stages.{start_exclusions}
 use Rattle.verdict_terms.specs.Form.{IsResult, AreTaken, RefuteHeight, RefuteValue, BacksUnder, DocumentsAreTrue}

@@ -17,20 +17,20 @@ use Rattle.packing_terms.specs.Tokens.PlainToken.{Apart, Order, Rules, TooLarge,
 use Rattle.packing_terms.specs.Tokens.PlainToken.{ValueShort, GlobalScales}
 use Rattle.packing_terms.specs.OuterRefutation.{Choice as BoxChoice}
 use Rattle.packing_terms.specs.OuterFeeding.{OpenNode}
-use Rattle.bounded_terms.specs.BoundedRefutation.{BoundedToken}
-use Rattle.bounded_terms.specs.BoundedJudging.{bounded_after}
-use Rattle.bounded_terms.specs.BoundedLines.{bounded_token_of}
-use Rattle.family_terms.specs.FamilyRefutation.{FamilyToken, FamilyNode, Free}
-use Rattle.family_terms.specs.FamilyChecking.{families_after}
-use Rattle.family_terms.specs.FamilyLines.{family_token_of}
+use Rattle.verdict_terms.specs.BoundedRefutation.{BoundedToken}
+use Rattle.verdict_terms.specs.BoundedJudging.{bounded_after}
+use Rattle.verdict_terms.specs.BoundedLines.{bounded_token_of}
+use Rattle.verdict_terms.specs.FamilyRefutation.{FamilyToken, FamilyNode, Free}
+use Rattle.verdict_terms.specs.FamilyChecking.{families_after}
+use Rattle.verdict_terms.specs.FamilyLines.{family_token_of}
 use Rattle.verdict_terms.specs.Trees.{Refuted, Tree, begun, is_whole, tree_dims, tree_after}
-use Rattle.document_terms.specs.declared.claim.Claim.{Claim}
-use Rattle.document_terms.specs.declared.claim.Claim.TheVariants.{Fitting, NotFitting, LeastHeight, HeightBetween}
-use Rattle.document_terms.specs.declared.claim.Claim.TheVariants.{NoHeight, LeastBins, BinsBetween, NoBins}
-use Rattle.document_terms.specs.declared.claim.Claim.TheVariants.{GreatestValue, ValueBetween}
-use Rattle.check_terms.specs.Judging.{names_box}
+use Rattle.text_terms.specs.declared.claim.Claim.{Claim}
+use Rattle.text_terms.specs.declared.claim.Claim.TheVariants.{Fitting, NotFitting, LeastHeight, HeightBetween}
+use Rattle.text_terms.specs.declared.claim.Claim.TheVariants.{NoHeight, LeastBins, BinsBetween, NoBins}
+use Rattle.text_terms.specs.declared.claim.Claim.TheVariants.{GreatestValue, ValueBetween}
+use Rattle.verdict_terms.specs.Judging.{names_box}
 use Rattle.verdict_terms.specs.Numbers.{require, numbers_line, coordinates}
-use Rattle.document_terms.specs.TokenLines.{token_of}
+use Rattle.text_terms.specs.TokenLines.{token_of}
 use Rattle.verdict_terms.specs.declared.heading.Heading.{Heading}
 use Rattle.verdict_terms.specs.declared.heading.Heading.TheVariants.{Answer, Reduced, Bounded}
 use Rattle.verdict_terms.specs.declared.reason.Reason.{Reason}

@@ -8,24 +8,24 @@ use Rattle.packing_terms.specs.Packing.{PlainInstance, dims, box_count, IsPackin
 use Rattle.packing_terms.specs.Goals.{with_last_side, subset, IsBinPacking, IsBoxSet, worth}
 use Rattle.packing_terms.specs.Tokens.{PlainToken}
 use Rattle.packing_terms.specs.Tokens.PlainToken.{TooLarge}
-use Rattle.bounded_terms.specs.BoundedRefutation.{BoundedToken, IsBoundedRefutation}
-use Rattle.bounded_terms.specs.BoundedLines.{bounded_token_of}
-use Rattle.family_terms.specs.FamilyRefutation.{FamilyToken, Free, RefutesFamilies}
-use Rattle.family_terms.specs.FamilyLines.{family_token_of}
+use Rattle.verdict_terms.specs.BoundedRefutation.{BoundedToken, IsBoundedRefutation}
+use Rattle.verdict_terms.specs.BoundedLines.{bounded_token_of}
+use Rattle.verdict_terms.specs.FamilyRefutation.{FamilyToken, Free, RefutesFamilies}
+use Rattle.verdict_terms.specs.FamilyLines.{family_token_of}
 use Rattle.packing_terms.specs.Refutation.{IsTooLarge}
 use Rattle.text_terms.specs.Lines.{text_lines, number_of}
 use Rattle.text_terms.specs.Form.{AreClean, filled_lines, IsNumber, HasForm}
-use Rattle.document_terms.specs.declared.claim.SolvingJob.{SolvingJob}
-use Rattle.document_terms.specs.declared.claim.SolvingJob.TheVariants.{Fit, Strip, Bins, Knapsack}
-use Rattle.document_terms.specs.declared.claim.Claim.{Claim}
-use Rattle.document_terms.specs.Claims.{job_of, job_word, IsTrueOf}
-use Rattle.document_terms.specs.declared.claim.Claim.TheVariants.{Fitting, NotFitting, LeastHeight, HeightBetween}
-use Rattle.document_terms.specs.declared.claim.Claim.TheVariants.{NoHeight, LeastBins, BinsBetween, NoBins}
-use Rattle.document_terms.specs.declared.claim.Claim.TheVariants.{GreatestValue, ValueBetween}
+use Rattle.text_terms.specs.declared.claim.SolvingJob.{SolvingJob}
+use Rattle.text_terms.specs.declared.claim.SolvingJob.TheVariants.{Fit, Strip, Bins, Knapsack}
+use Rattle.text_terms.specs.declared.claim.Claim.{Claim}
+use Rattle.text_terms.specs.Claims.{job_of, job_word, IsTrueOf}
+use Rattle.text_terms.specs.declared.claim.Claim.TheVariants.{Fitting, NotFitting, LeastHeight, HeightBetween}
+use Rattle.text_terms.specs.declared.claim.Claim.TheVariants.{NoHeight, LeastBins, BinsBetween, NoBins}
+use Rattle.text_terms.specs.declared.claim.Claim.TheVariants.{GreatestValue, ValueBetween}
 use Rattle.packing_terms.specs.Limits.{max_height}
-use Rattle.document_terms.specs.Claims.{max_worth}
+use Rattle.text_terms.specs.Claims.{max_worth}
 use Rattle.verdict_terms.specs.Numbers.{max_coordinate}
-use Rattle.document_terms.specs.TokenLines.{token_of}
+use Rattle.text_terms.specs.TokenLines.{token_of}
 use Rattle.verdict_terms.specs.Trees.{Refuted, ToFit, ToFitIn, ToReach, refuted_dims, AreRefutation}
 use Rattle.verdict_terms.specs.declared.heading.Heading.{Heading}
 use Rattle.verdict_terms.specs.declared.heading.Heading.TheVariants.{Answer, Reduced, Bounded}

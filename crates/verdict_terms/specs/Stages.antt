@@ -19,32 +19,32 @@ use Rattle.packing_terms.specs.declared.Exclusion.{Exclusion}
 use Rattle.packing_terms.specs.Packing.{PlainInstance, dims, box_count, container_side, side}
 use Rattle.packing_terms.specs.Goals.{with_last_side, subset, in_bin, places_of, worth}
 use Rattle.packing_terms.specs.Tokens.{PlainToken}
-use Rattle.symmetry_terms.specs.Facts.{symmetry_facts}
+use Rattle.packing_terms.specs.Facts.{symmetry_facts}
 use Rattle.packing_terms.specs.Tokens.PlainToken.{TooLarge}
 use Rattle.packing_terms.specs.OuterRefutation.{Choice as BoxChoice, no_choice}
 use Rattle.packing_terms.specs.OuterFeeding.{OpenNode, Outer}
-use Rattle.bounded_terms.specs.BoundedRefutation.{BoundedToken}
-use Rattle.bounded_terms.specs.BoundedJudging.{bounded_after}
-use Rattle.bounded_terms.specs.BoundedLines.{bounded_token_of}
-use Rattle.family_terms.specs.FamilyRefutation.{FamilyToken, FamilyNode, Free}
-use Rattle.family_terms.specs.FamilyChecking.{families_after}
-use Rattle.family_terms.specs.FamilyLines.{family_token_of}
+use Rattle.verdict_terms.specs.BoundedRefutation.{BoundedToken}
+use Rattle.verdict_terms.specs.BoundedJudging.{bounded_after}
+use Rattle.verdict_terms.specs.BoundedLines.{bounded_token_of}
+use Rattle.verdict_terms.specs.FamilyRefutation.{FamilyToken, FamilyNode, Free}
+use Rattle.verdict_terms.specs.FamilyChecking.{families_after}
+use Rattle.verdict_terms.specs.FamilyLines.{family_token_of}
 use Rattle.text_terms.specs.declared.fault.TextFault.{TextFault}
 use Rattle.text_terms.specs.Lines.{Line, same_bytes}
 use Rattle.packing_terms.specs.Results.{◌>>=◌}
 use Rattle.text_terms.specs.Texts.{Parts, no_parts, add_line, at_end, is_none, first_word}
-use Rattle.check_terms.specs.declared.answers.RefuseCode.{RefuseCode}
-use Rattle.check_terms.specs.declared.answers.RefuseCode.TheVariants.{Side}
-use Rattle.check_terms.specs.declared.answers.PlaceVerdict.{PlaceVerdict}
-use Rattle.check_terms.specs.declared.answers.PlaceVerdict.TheVariants.{Good, Outside, Overlap}
-use Rattle.check_terms.specs.Placing.{place_verdict}
-use Rattle.check_terms.specs.Judging.{names_box}
-use Rattle.document_terms.specs.declared.claim.SolvingJob.{SolvingJob}
-use Rattle.document_terms.specs.declared.claim.Claim.{Claim}
-use Rattle.document_terms.specs.declared.claim.SolvingJob.TheVariants.{Fit, Strip, Bins, Knapsack}
-use Rattle.document_terms.specs.declared.claim.Claim.TheVariants.{Fitting, NotFitting, LeastHeight, HeightBetween}
-use Rattle.document_terms.specs.declared.claim.Claim.TheVariants.{NoHeight, LeastBins, BinsBetween, NoBins}
-use Rattle.document_terms.specs.declared.claim.Claim.TheVariants.{GreatestValue, ValueBetween}
+use Rattle.verdict_terms.specs.declared.check_answers.RefuseCode.{RefuseCode}
+use Rattle.verdict_terms.specs.declared.check_answers.RefuseCode.TheVariants.{Side}
+use Rattle.verdict_terms.specs.declared.check_answers.PlaceVerdict.{PlaceVerdict}
+use Rattle.verdict_terms.specs.declared.check_answers.PlaceVerdict.TheVariants.{Good, Outside, Overlap}
+use Rattle.verdict_terms.specs.Placing.{place_verdict}
+use Rattle.verdict_terms.specs.Judging.{names_box}
+use Rattle.text_terms.specs.declared.claim.SolvingJob.{SolvingJob}
+use Rattle.text_terms.specs.declared.claim.Claim.{Claim}
+use Rattle.text_terms.specs.declared.claim.SolvingJob.TheVariants.{Fit, Strip, Bins, Knapsack}
+use Rattle.text_terms.specs.declared.claim.Claim.TheVariants.{Fitting, NotFitting, LeastHeight, HeightBetween}
+use Rattle.text_terms.specs.declared.claim.Claim.TheVariants.{NoHeight, LeastBins, BinsBetween, NoBins}
+use Rattle.text_terms.specs.declared.claim.Claim.TheVariants.{GreatestValue, ValueBetween}
 use Rattle.verdict_terms.specs.declared.heading.Heading.{Heading}
 use Rattle.verdict_terms.specs.declared.heading.Heading.TheVariants.{Answer, Reduced, Bounded}
 use Rattle.verdict_terms.specs.declared.reason.Reason.{Reason}
@@ -52,7 +52,7 @@ use Rattle.verdict_terms.specs.Reasons.{form, range, after}
 use Rattle.verdict_terms.specs.declared.reason.Reason.TheVariants.{Text, Token, OutsideAt, OverlapAt, TooLittle}
 use Rattle.verdict_terms.specs.declared.reason.Reason.TheVariants.{TooShort}
 use Rattle.verdict_terms.specs.Numbers.{require, numbers_line, coordinates}
-use Rattle.document_terms.specs.TokenLines.{token_of}
+use Rattle.text_terms.specs.TokenLines.{token_of}
 use Rattle.verdict_terms.specs.Trees.{Refuted, ToFit, ToFitIn, ToReach, refuted_instance, Tree, begun, tree_dims}
 use Rattle.verdict_terms.specs.Trees.{tree_after, is_whole}
 use Rattle.verdict_terms.specs.Results.{claim_of}

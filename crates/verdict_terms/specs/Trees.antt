@@ -7,8 +7,8 @@ use Rattle.packing_terms.specs.Refutation.{Refutes}
 use Rattle.packing_terms.specs.OuterRefutation.{Bins as UsedBins, Choice as BoxChoice, no_choice, IsBinRefutation}
 use Rattle.packing_terms.specs.OuterRefutation.{IsValueRefutation}
 use Rattle.packing_terms.specs.OuterFeeding.{OpenNode, Outer}
-use Rattle.check_terms.specs.declared.answers.RefuseCode.{RefuseCode}
-use Rattle.check_terms.specs.Checking.{inner_after, bins_after, value_after}
+use Rattle.verdict_terms.specs.declared.check_answers.RefuseCode.{RefuseCode}
+use Rattle.verdict_terms.specs.Checking.{inner_after, bins_after, value_after}
 
 -- what is to be refuted: that the instance fits, by a tree that begins with these exclusions; that it
 -- fits in `bins` bins; that it reaches a value

@@ -1,6 +1,6 @@
 //! Why a line of a document is refused.
 
-use check_terms::RefuseCode;
+use crate::RefuseCode;
 
 /// The reason of a refusal. Numbers of boxes and dimensions are those of the text.
 #[derive(Clone, Copy, Debug, PartialEq, Eq)]

@@ -6,10 +6,10 @@ use Rattle.std.proofs.lemmas.Bool.{true≢false}
 use Rattle.std.specs.Prelude.{slice_get}
 use Rattle.std.proofs.lemmas.Option.{slice_get_read, slice_get_within, same_Some}
 use Rattle.std.proofs.lemmas.List.{take_more, drop_more, length-map}
-use Rattle.board_terms.specs.Board.{PlainEntry, SplitEntry, TaskEntry, PlainTaskState, Waits, Out, Done, at_first}
-use Rattle.board_terms.specs.Board.{state_waits, waits_as, is_out}
-use Rattle.board_terms.specs.Kept.{AreBelow}
-use Rattle.board_terms.proofs.Outs.{out_is}
+use Rattle.work_share.specs.Board.{PlainEntry, SplitEntry, TaskEntry, PlainTaskState, Waits, Out, Done, at_first}
+use Rattle.work_share.specs.Board.{state_waits, waits_as, is_out}
+use Rattle.work_share.specs.Kept.{AreBelow}
+use Rattle.work_share.proofs.Outs.{out_is}
 use Rattle.work_share.specs.declared.slot.Slot.{Slot}
 use Rattle.work_share.specs.declared.slot.Piece.{Piece}
 use Rattle.work_share.specs.declared.slot.Piece.TheVariants.{Open, Refuted}

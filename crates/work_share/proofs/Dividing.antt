@@ -8,12 +8,12 @@ use Rattle.std.proofs.lemmas.Bool.{cases_eq, cases_lt}
 use Rattle.std.proofs.lemmas.List.{reverse-reverse, map-append, take-append-drop, length-take-le}
 use Rattle.tree_terms.specs.Trees.{SearchTree, node_at}
 use Rattle.tree_terms.specs.Paths.{Splits, node_view}
-use Rattle.board_terms.specs.declared.Event.{Event}
-use Rattle.board_terms.specs.declared.Event.TheVariants as event
-use Rattle.board_terms.specs.Board.{TaskEntry, PlainTask, Out, out_path, children_from}
-use Rattle.board_terms.specs.Steps.{Divides}
-use Rattle.board_terms.specs.Kept.{IsNotIn, AreDistinct, AreBelow, AreFromLeft, task_paths}
-use Rattle.board_terms.proofs.Lists.{below_left, below_right}
+use Rattle.work_share.specs.declared.Event.{Event}
+use Rattle.work_share.specs.declared.Event.TheVariants as event
+use Rattle.work_share.specs.Board.{TaskEntry, PlainTask, Out, out_path, children_from}
+use Rattle.work_share.specs.Steps.{Divides}
+use Rattle.work_share.specs.Kept.{IsNotIn, AreDistinct, AreBelow, AreFromLeft, task_paths}
+use Rattle.work_share.proofs.Lists.{below_left, below_right}
 use Rattle.proof_tree.specs.declared.token.Token.{Token}
 use Rattle.proof_tree.specs.Plain.{plain_token}
 use Rattle.work_share.specs.declared.slot.Slot.{Slot}

@@ -5,15 +5,15 @@ use Rattle.std.proofs.lemmas.Bool.{true≢false}
 use Rattle.std.proofs.lemmas.List.{length_push}
 use Rattle.tree_terms.specs.Trees.{SearchTree, Verdict, PlainOutcome, Past, count_of, outcome, node_at}
 use Rattle.tree_terms.specs.Paths.{IsReachable, outcome_at, outcome_of}
-use Rattle.board_terms.specs.declared.Event.{Event}
-use Rattle.board_terms.specs.declared.Event.TheVariants as event
-use Rattle.board_terms.specs.Board.{PlainEntry, TaskEntry, PlainTask, Out, Done, with_state, is_out, entry_number}
-use Rattle.board_terms.specs.Board.{entry_path, out_path}
-use Rattle.board_terms.specs.Steps.{finished, outcome_given, Finishes}
-use Rattle.board_terms.specs.Kept.{AreBelow, IsOutcomeOf, AreTasksRight}
-use Rattle.board_terms.proofs.Changes.{right_tail}
-use Rattle.board_terms.proofs.Outs.{out_is, same_path}
-use Rattle.board_terms.proofs.Calls.{finished_is}
+use Rattle.work_share.specs.declared.Event.{Event}
+use Rattle.work_share.specs.declared.Event.TheVariants as event
+use Rattle.work_share.specs.Board.{PlainEntry, TaskEntry, PlainTask, Out, Done, with_state, is_out, entry_number}
+use Rattle.work_share.specs.Board.{entry_path, out_path}
+use Rattle.work_share.specs.Steps.{finished, outcome_given, Finishes}
+use Rattle.work_share.specs.Kept.{AreBelow, IsOutcomeOf, AreTasksRight}
+use Rattle.work_share.proofs.Changes.{right_tail}
+use Rattle.work_share.proofs.Outs.{out_is, same_path}
+use Rattle.work_share.proofs.Calls.{finished_is}
 use Rattle.proof_tree.specs.declared.outcome.Outcome.{Outcome}
 use Rattle.work_share.specs.Outcomes.{plain_outcome}
 use Rattle.work_share.specs.declared.slot.Slot.{Slot}

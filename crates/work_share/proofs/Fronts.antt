@@ -6,8 +6,8 @@ use Rattle.std.proofs.lemmas.Bool.Decides.{nat_tests}
 use Rattle.std.proofs.lemmas.List.{take-append-drop, length-drop}
 use Rattle.tree_terms.specs.Trees.{Yes, No, join, count_of, Decided, Past}
 use Rattle.tree_terms.proofs.Joins.{join_assoc, nothing_join, count_join_no}
-use Rattle.board_terms.specs.Board.{BoardState, PlainEntry, SplitEntry, TaskEntry, Waits, Out, Done}
-use Rattle.board_terms.specs.Runs.{Run, with_entry, run_of, is_board_over}
+use Rattle.work_share.specs.Board.{BoardState, PlainEntry, SplitEntry, TaskEntry, Waits, Out, Done}
+use Rattle.work_share.specs.Runs.{Run, with_entry, run_of, is_board_over}
 use Rattle.work_share.specs.Fronts.{piece_of, IsRefutedPiece, AreRefuted, count_in, counted, EndsWithFirst, IsOpen}
 use Rattle.work_share.specs.Fronts.{StandsAt, IsFront}
 use Rattle.work_share.specs.Joining.{tokens_in, entry_tokens}

@@ -6,8 +6,8 @@ use Rattle.std.specs.List.{range_with_len}
 use Rattle.std.specs.Prelude.{slice_get}
 use Rattle.std.proofs.lemmas.Bool.{cases_lt}
 use Rattle.std.proofs.lemmas.List.{length-append, length_push, reverse-append, take_at, drop_at, length-reverse}
-use Rattle.board_terms.specs.Board.{PlainEntry, PlainTask, is_out, at_first, children_from}
-use Rattle.board_terms.specs.Kept.{IsNotIn, AreBelow}
+use Rattle.work_share.specs.Board.{PlainEntry, PlainTask, is_out, at_first, children_from}
+use Rattle.work_share.specs.Kept.{IsNotIn, AreBelow}
 use Rattle.work_share.specs.declared.slot.Slot.{Slot}
 use Rattle.work_share.specs.Slots.{entry_or, entry_at, entries_of, entries_from}
 use Rattle.work_share.specs.Boards.{owed, IsIn}

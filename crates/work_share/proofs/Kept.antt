@@ -3,12 +3,12 @@ use Rattle.std.proofs.Common.{◌≡◌, ℕ, ◌≤◌, sym, ap, ◌∙◌, sub
 use Rattle.std.proofs.lemmas.List.{length-map, reverse-append, reverse-reverse}
 use Rattle.std.proofs.lemmas.List.Sums.{fold-append}
 use Rattle.tree_terms.specs.Trees.{SearchTree}
-use Rattle.board_terms.specs.declared.Event.{Event}
-use Rattle.board_terms.specs.Board.{BoardState, board_start, PlainTask}
-use Rattle.board_terms.specs.Replay.{happens, replay}
-use Rattle.board_terms.specs.Kept.{AreDistinct, AreBelow, OutsAreApart, AreTasksRight}
-use Rattle.board_terms.proofs.Outs.{outs_apart}
-use Rattle.board_terms.proofs.Replays.{Keeps, keeps_replay}
+use Rattle.work_share.specs.declared.Event.{Event}
+use Rattle.work_share.specs.Board.{BoardState, board_start, PlainTask}
+use Rattle.work_share.specs.Replay.{happens, replay}
+use Rattle.work_share.specs.Kept.{AreDistinct, AreBelow, OutsAreApart, AreTasksRight}
+use Rattle.work_share.proofs.Outs.{outs_apart}
+use Rattle.work_share.proofs.Replays.{Keeps, keeps_replay}
 use Rattle.work_share.specs.declared.slot.Slot.{Slot}
 use Rattle.work_share.specs.Slots.{entry_at, entries_of}
 use Rattle.work_share.specs.Fronts.{IsFront}

@@ -15,3 +15,14 @@ pub mod Outside
 pub mod Inserted
 pub mod Splitting
 pub mod Dividing
+pub mod Lists
+pub mod Left
+pub mod Chain
+pub mod Changes
+pub mod Fair
+pub mod Replays
+pub mod RunRight
+pub mod Outs
+pub mod Once
+pub mod Calls
+pub mod Rows

@@ -1,7 +1,7 @@
 -- The children of a split, made one after another.
 use Rattle.std.proofs.Common.{◌≡◌, ℕ, suc, refl, ◌+◌, ◌-◌, ◌<◌, sym, ap, ap₂, ◌∙◌, arith, add-one, add-zero, List, []}
 use Rattle.std.proofs.Common.{◌∷◌, ◌++◌, length, append_assoc, Option}
-use Rattle.board_terms.specs.Board.{TaskEntry, Waits, children_from}
+use Rattle.work_share.specs.Board.{TaskEntry, Waits, children_from}
 use Rattle.work_share.specs.declared.slot.Slot.{Slot}
 use Rattle.work_share.specs.Slots.{entry_of, entries_from}
 use Rattle.work_share.specs.Links.{link_to, links_from, links_of}

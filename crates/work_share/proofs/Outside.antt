@@ -3,8 +3,8 @@ use Rattle.std.proofs.Common.{◌≡◌, ℕ, ◌≤◌, sym, ap, ◌∙◌, ari
 use Rattle.std.specs.Prelude.{slice_get}
 use Rattle.std.proofs.lemmas.Option.{slice_get_within}
 use Rattle.tree_terms.specs.Trees.{SearchTree}
-use Rattle.board_terms.specs.declared.Event.{Event}
-use Rattle.board_terms.specs.Board.{PlainTask, TaskEntry, Out, out_path}
+use Rattle.work_share.specs.declared.Event.{Event}
+use Rattle.work_share.specs.Board.{PlainTask, TaskEntry, Out, out_path}
 use Rattle.work_share.specs.declared.slot.Slot.{Slot}
 use Rattle.work_share.specs.Slots.{entry_of, entry_or, entries_of}
 use Rattle.work_share.specs.Boards.{IsKept}

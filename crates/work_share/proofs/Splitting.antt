@@ -9,14 +9,14 @@ use Rattle.std.proofs.lemmas.List.{drop_more, take_all, take-map, length-reverse
 use Rattle.std.proofs.lemmas.List.FromFn.{length-range_with_len}
 use Rattle.tree_terms.specs.Trees.{SearchTree, node_at}
 use Rattle.tree_terms.specs.Paths.{Splits, node_view}
-use Rattle.board_terms.specs.declared.Event.{Event}
-use Rattle.board_terms.specs.declared.Event.TheVariants as event
-use Rattle.board_terms.specs.Board.{PlainEntry, SplitEntry, TaskEntry, PlainTask, Out, is_out, out_path, at_first}
-use Rattle.board_terms.specs.Board.{children_from, split_into}
-use Rattle.board_terms.specs.Steps.{divided, Divides}
-use Rattle.board_terms.specs.Kept.{IsNotIn, AreDistinct, AreBelow}
-use Rattle.board_terms.proofs.Lists.{below_left, below_right, below_append, below_more}
-use Rattle.board_terms.proofs.Calls.{divided_is}
+use Rattle.work_share.specs.declared.Event.{Event}
+use Rattle.work_share.specs.declared.Event.TheVariants as event
+use Rattle.work_share.specs.Board.{PlainEntry, SplitEntry, TaskEntry, PlainTask, Out, is_out, out_path, at_first}
+use Rattle.work_share.specs.Board.{children_from, split_into}
+use Rattle.work_share.specs.Steps.{divided, Divides}
+use Rattle.work_share.specs.Kept.{IsNotIn, AreDistinct, AreBelow}
+use Rattle.work_share.proofs.Lists.{below_left, below_right, below_append, below_more}
+use Rattle.work_share.proofs.Calls.{divided_is}
 use Rattle.proof_tree.specs.declared.token.Token.{Token}
 use Rattle.proof_tree.specs.Plain.{plain_token}
 use Rattle.work_share.specs.declared.slot.Slot.{Slot}

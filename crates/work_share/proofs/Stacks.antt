@@ -4,10 +4,10 @@ use Rattle.std.proofs.Common.{length, drop, true, false, if◌then◌else◌, eq
 use Rattle.std.proofs.lemmas.Bool.{eqb-true, eqb-false, eq-eqb, ne_eqb}
 use Rattle.std.proofs.lemmas.Bool.Decides.{nat_tests}
 use Rattle.std.proofs.lemmas.List.{drop_all}
-use Rattle.board_terms.specs.Board.{PlainEntry, SplitEntry, TaskEntry, PlainTask, Waits, Out, Done}
-use Rattle.board_terms.specs.Kept.{leads_left, IsLeftOf, AreFromLeft, task_paths}
-use Rattle.board_terms.proofs.Left.{left_rest, from_left_rest}
-use Rattle.board_terms.proofs.Changes.{paths_append}
+use Rattle.work_share.specs.Board.{PlainEntry, SplitEntry, TaskEntry, PlainTask, Waits, Out, Done}
+use Rattle.work_share.specs.Kept.{leads_left, IsLeftOf, AreFromLeft, task_paths}
+use Rattle.work_share.proofs.Left.{left_rest, from_left_rest}
+use Rattle.work_share.proofs.Changes.{paths_append}
 use Rattle.work_share.specs.Boards.{waiting_tasks}
 use Rattle.work_share.specs.Stacks.{count_left}
 

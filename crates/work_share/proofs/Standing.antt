@@ -3,12 +3,12 @@ use Rattle.std.proofs.Common.{◌≡◌, ℕ, suc, ◌<◌, ◌⊎◌, inl, inr,
 use Rattle.std.proofs.Common.{Some, None, Bool, true, false, if◌then◌else◌, ◌==◌, option_to_list}
 use Rattle.std.proofs.lemmas.Bool.{true≢false, eq-eqb}
 use Rattle.tree_terms.specs.Trees.{PlainOutcome}
-use Rattle.board_terms.specs.Board.{PlainEntry, SplitEntry, TaskEntry, PlainTask, Waits, Out, Done, waits, waits_as}
-use Rattle.board_terms.specs.Board.{is_out, state_waits, task_of, entry_path, entry_number, first_waiting, out_path}
-use Rattle.board_terms.specs.Board.{with_state}
-use Rattle.board_terms.specs.Steps.{handed_out, finished}
-use Rattle.board_terms.specs.Kept.{AreBelow}
-use Rattle.board_terms.proofs.Outs.{out_is, same_path}
+use Rattle.work_share.specs.Board.{PlainEntry, SplitEntry, TaskEntry, PlainTask, Waits, Out, Done, waits, waits_as}
+use Rattle.work_share.specs.Board.{is_out, state_waits, task_of, entry_path, entry_number, first_waiting, out_path}
+use Rattle.work_share.specs.Board.{with_state}
+use Rattle.work_share.specs.Steps.{handed_out, finished}
+use Rattle.work_share.specs.Kept.{AreBelow}
+use Rattle.work_share.proofs.Outs.{out_is, same_path}
 use Rattle.work_share.specs.declared.slot.Slot.{Slot}
 use Rattle.work_share.specs.Slots.{entry_at, entries_of}
 use Rattle.work_share.specs.Boards.{waiting_tasks, owed, IsIn}

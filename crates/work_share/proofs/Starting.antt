@@ -2,8 +2,8 @@
 use Rattle.std.proofs.Common.{◌≡◌, ℕ, zero, suc, ◌<◌, ◌≤◌, inl, refl, sym, ap, ◌∙◌, subst, arith, [], ◌∷◌, reverse}
 use Rattle.std.proofs.Common.{Some, None, false}
 use Rattle.tree_terms.specs.Trees.{SearchTree}
-use Rattle.board_terms.specs.Board.{BoardState}
-use Rattle.board_terms.specs.Replay.{replay}
+use Rattle.work_share.specs.Board.{BoardState}
+use Rattle.work_share.specs.Replay.{replay}
 use Rattle.work_share.specs.declared.slot.Slot.{Slot}
 use Rattle.work_share.specs.declared.slot.SlotState.TheVariants.{Waits}
 use Rattle.work_share.specs.Slots.{entry_as}

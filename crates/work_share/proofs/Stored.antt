@@ -4,8 +4,8 @@ use Rattle.std.proofs.Common.{◌∷◌, ◌++◌, length, map, Option, Some, No
 use Rattle.std.specs.Prelude.{slice_get}
 use Rattle.std.proofs.lemmas.Bool.{cases_eq}
 use Rattle.std.proofs.lemmas.Option.{same_Some}
-use Rattle.board_terms.specs.Board.{PlainEntry, SplitEntry, TaskEntry, PlainTaskState, entry_number, at_first}
-use Rattle.board_terms.specs.Kept.{IsNotIn, AreDistinct}
+use Rattle.work_share.specs.Board.{PlainEntry, SplitEntry, TaskEntry, PlainTaskState, entry_number, at_first}
+use Rattle.work_share.specs.Kept.{IsNotIn, AreDistinct}
 use Rattle.work_share.specs.declared.slot.Slot.{Slot}
 use Rattle.work_share.specs.declared.slot.SlotState.{SlotState}
 use Rattle.work_share.specs.declared.slot.SlotState.TheVariants.{Waits, Out, Done, Split}

@@ -5,13 +5,13 @@ use Rattle.std.proofs.lemmas.Bool.{true≢false, eqb-true, eq-eqb}
 use Rattle.std.proofs.lemmas.List.{length_push, reverse-reverse}
 use Rattle.tree_terms.specs.Trees.{SearchTree}
 use Rattle.tree_terms.specs.Paths.{IsReachable}
-use Rattle.board_terms.specs.declared.Event.{Event}
-use Rattle.board_terms.specs.declared.Event.TheVariants as event
-use Rattle.board_terms.specs.Board.{PlainEntry, SplitEntry, TaskEntry, PlainTask, Waits, Out as PlainOut, with_state}
-use Rattle.board_terms.specs.Board.{waits, task_of, waits_as, state_waits, entry_number, first_waiting, out_path}
-use Rattle.board_terms.specs.Steps.{handed_out}
-use Rattle.board_terms.specs.Kept.{AreTasksRight}
-use Rattle.board_terms.proofs.Changes.{right_tail}
+use Rattle.work_share.specs.declared.Event.{Event}
+use Rattle.work_share.specs.declared.Event.TheVariants as event
+use Rattle.work_share.specs.Board.{PlainEntry, SplitEntry, TaskEntry, PlainTask, Waits, Out as PlainOut, with_state}
+use Rattle.work_share.specs.Board.{waits, task_of, waits_as, state_waits, entry_number, first_waiting, out_path}
+use Rattle.work_share.specs.Steps.{handed_out}
+use Rattle.work_share.specs.Kept.{AreTasksRight}
+use Rattle.work_share.proofs.Changes.{right_tail}
 use Rattle.work_share.specs.declared.slot.Slot.{Slot}
 use Rattle.work_share.specs.declared.slot.SlotState.TheVariants.{Out}
 use Rattle.work_share.specs.declared.slot.Piece.TheVariants.{Open}

@@ -10,9 +10,9 @@ use Rattle.packing_terms.specs.Tokens.{PlainToken}
 use Rattle.tree_terms.specs.Trees.{No, join, Decided, under_budget}
 use Rattle.tree_terms.proofs.Told.{told_decided}
 use Rattle.tree_terms.proofs.Joins.{join_nothing}
-use Rattle.board_terms.specs.Board.{PlainEntry}
-use Rattle.board_terms.specs.Runs.{Run, with_entry, run_of}
-use Rattle.board_terms.specs.Kept.{IsNotIn, AreDistinct, AreBelow}
+use Rattle.work_share.specs.Board.{PlainEntry}
+use Rattle.work_share.specs.Runs.{Run, with_entry, run_of}
+use Rattle.work_share.specs.Kept.{IsNotIn, AreDistinct, AreBelow}
 use Rattle.work_share.specs.declared.slot.Slot.{Slot}
 use Rattle.work_share.specs.declared.slot.SlotState.{SlotState}
 use Rattle.work_share.specs.declared.slot.SlotState.TheVariants.{Waits, Out, Done, Split}

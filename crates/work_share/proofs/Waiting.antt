@@ -1,7 +1,7 @@
 -- The tasks that wait, and the events of tasks that are still to come, of entries behind others.
 use Rattle.std.proofs.Common.{◌≡◌, ◌+◌, refl, sym, ap, ◌∙◌, arith, List, [], ◌∷◌, ◌++◌, if◌then◌else◌, option_to_list}
 use Rattle.std.proofs.Common.{append_assoc}
-use Rattle.board_terms.specs.Board.{PlainEntry, PlainTask, waits, task_of}
+use Rattle.work_share.specs.Board.{PlainEntry, PlainTask, waits, task_of}
 use Rattle.work_share.specs.Boards.{waiting_tasks, owed}
 
 -- what an entry adds to the tasks that wait

@@ -2,11 +2,11 @@
 use Rattle.std.specs.Prelude.{ℕ, ◌+◌, ◌*◌, ◌≡◌, ◌≤◌, ◌<◌, ◌⊎◌, List, [], ◌∷◌, ◌++◌, length, reverse, Bool}
 use Rattle.std.specs.Prelude.{if◌then◌else◌, option_to_list}
 use Rattle.tree_terms.specs.Trees.{SearchTree}
-use Rattle.board_terms.specs.declared.Event.{Event}
-use Rattle.board_terms.specs.Board.{BoardState, PlainTask, PlainEntry, SplitEntry, TaskEntry, PlainTaskState, Waits}
-use Rattle.board_terms.specs.Board.{Out, Done, waits, task_of}
-use Rattle.board_terms.specs.Replay.{replay}
-use Rattle.board_terms.specs.Kept.{OutsAreApart, AreTasksRight}
+use Rattle.work_share.specs.declared.Event.{Event}
+use Rattle.work_share.specs.Board.{BoardState, PlainTask, PlainEntry, SplitEntry, TaskEntry, PlainTaskState, Waits}
+use Rattle.work_share.specs.Board.{Out, Done, waits, task_of}
+use Rattle.work_share.specs.Replay.{replay}
+use Rattle.work_share.specs.Kept.{OutsAreApart, AreTasksRight}
 use Rattle.work_share.specs.declared.slot.Slot.{Slot}
 use Rattle.work_share.specs.Slots.{entries_of}
 use Rattle.work_share.specs.Fronts.{IsFront}

@@ -2,8 +2,8 @@
 use Rattle.std.specs.Prelude.{ℕ, ◌+◌, ◌-◌, ◌*◌, ◌≤◌, ◌<◌, ◌≡◌, ◌⊎◌, List, length, min, IfSome, Some, Result, Ok, Err}
 use Rattle.tree_terms.specs.Trees.{SearchTree, node_at, outcome, under_budget, count_of}
 use Rattle.tree_terms.specs.Paths.{node_view, Leaf, Splits}
-use Rattle.board_terms.specs.Board.{BoardState, PlainTask, out_path}
-use Rattle.board_terms.specs.Steps.{BoardStep, AskSplit, AskFinish, NoteShort, IsDone}
+use Rattle.work_share.specs.Board.{BoardState, PlainTask, out_path}
+use Rattle.work_share.specs.Steps.{BoardStep, AskSplit, AskFinish, NoteShort, IsDone}
 use Rattle.box_instances.specs.declared.NoMemory.{NoMemory}
 use Rattle.work_share.specs.Outcomes.{plain_outcome}
 use Rattle.proof_tree.specs.Plain.{plain_token}

@@ -2,7 +2,7 @@
 use Rattle.std.specs.Prelude.{List, [], ◌∷◌, ◌++◌}
 use Rattle.packing_terms.specs.Tokens.{PlainToken}
 use Rattle.tree_terms.specs.Trees.{Yes, No, PlainOutcome, Decided, Past}
-use Rattle.board_terms.specs.Board.{PlainEntry, SplitEntry, TaskEntry, PlainTaskState, Waits, Out, Done}
+use Rattle.work_share.specs.Board.{PlainEntry, SplitEntry, TaskEntry, PlainTaskState, Waits, Out, Done}
 
 abbrev pub tokens_told : PlainOutcome → List PlainToken
 tokens_told (Decided (Yes numbers count)) = []

@@ -1,8 +1,8 @@
 -- The entries of a board, as they are stored: by number, with their order beside them.
 use Rattle.std.specs.Prelude.{ℕ, zero, suc, List, [], ◌∷◌, map, Option, Some, None, slice_get}
 use Rattle.packing_terms.specs.Tokens.PlainToken.{Rules}
-use Rattle.board_terms.specs.Board.{PlainEntry, SplitEntry, TaskEntry, Waits as PlainWaits, Out as PlainOut}
-use Rattle.board_terms.specs.Board.{Done as PlainDone}
+use Rattle.work_share.specs.Board.{PlainEntry, SplitEntry, TaskEntry, Waits as PlainWaits, Out as PlainOut}
+use Rattle.work_share.specs.Board.{Done as PlainDone}
 use Rattle.work_share.specs.Outcomes.{plain_outcome}
 use Rattle.proof_tree.specs.Plain.{plain_token}
 use Rattle.work_share.specs.declared.slot.Slot.{Slot}

@@ -1,8 +1,8 @@
 -- Tasks, and what a board replies to a worker that asks for one.
 use Rattle.std.specs.Prelude.{Bool, true, false}
 use Rattle.tree_terms.specs.Trees.{PlainOutcome, Decided, Past}
-use Rattle.board_terms.specs.Board.{PlainTask}
-use Rattle.board_terms.specs.Steps.{Reply, Job as JobReply, NoneWaits, IsOver}
+use Rattle.work_share.specs.Board.{PlainTask}
+use Rattle.work_share.specs.Steps.{Reply, Job as JobReply, NoneWaits, IsOver}
 use Rattle.work_share.specs.declared.task.Take.{Take}
 use Rattle.work_share.specs.declared.task.Take.TheVariants.{Job, Empty, Over}
 

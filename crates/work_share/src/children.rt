@@ -1,6 +1,6 @@
 //! The children of a split, as they come onto a board.
 ghost use Rattle.std.specs.Prelude.{◌≡◌, ◌<◌, ◌+◌, ◌-◌, ◌≤◌, ◌^◌, ◌++◌, ◌∷◌, [], length, reverse, take, drop, IfOk, vec_len, vec_capacity};
-ghost use Rattle.board_terms.specs.Board.{children_from};
+ghost use Rattle.work_share.specs.Board.{children_from};
 ghost use Rattle.work_share.specs.Slots.{entries_from, with_slot};
 ghost use Rattle.work_share.specs.Links.{link_to, links_from, links_of, with_link};
 ghost use Rattle.work_share.specs.Boards.{waiting_tasks};

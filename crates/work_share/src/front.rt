@@ -1,6 +1,6 @@
 //! The leftmost finished run of a board, as far as it is known.
 ghost use Rattle.std.specs.Prelude.{◌≡◌, ◌<◌, length, slice_get};
-ghost use Rattle.board_terms.specs.Kept.{AreBelow};
+ghost use Rattle.work_share.specs.Kept.{AreBelow};
 ghost use Rattle.work_share.specs.Slots.{entry_at, entries_of};
 ghost use Rattle.work_share.specs.Links.{order_of, IsLinked};
 ghost use Rattle.work_share.specs.Fronts.{piece_of, HasFrontTo, IsFront};

@@ -2,8 +2,8 @@
 ghost use Rattle.std.specs.Prelude.{◌≡◌, ◌≤◌, ◌<◌, ◌++◌, ℕ, List, length, IfOk, OnOk, Some, true, false};
 ghost use Rattle.packing_terms.specs.Tokens.{PlainToken};
 ghost use Rattle.tree_terms.specs.Trees.{No, join, under_budget};
-ghost use Rattle.board_terms.specs.Kept.{AreBelow, AreDistinct};
-ghost use Rattle.board_terms.specs.Runs.{Run, run_of, with_entry};
+ghost use Rattle.work_share.specs.Kept.{AreBelow, AreDistinct};
+ghost use Rattle.work_share.specs.Runs.{Run, run_of, with_entry};
 ghost use Rattle.work_share.specs.Outcomes.{plain_outcome};
 ghost use Rattle.work_share.specs.Slots.{entry_of, entries_of};
 ghost use Rattle.work_share.specs.Links.{order_of, IsChain, IsLinked};

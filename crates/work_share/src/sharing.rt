@@ -2,8 +2,8 @@
 ghost use Rattle.std.specs.Prelude.{◌≡◌, IfOk, IfSome, Some};
 ghost use Rattle.tree_terms.specs.Trees.{outcome, under_budget};
 ghost use Rattle.tree_terms.specs.Paths.{IsReachable};
-ghost use Rattle.board_terms.specs.Board.{out_path};
-ghost use Rattle.board_terms.specs.Steps.{BoardStep, AskTask};
+ghost use Rattle.work_share.specs.Board.{out_path};
+ghost use Rattle.work_share.specs.Steps.{BoardStep, AskTask};
 ghost use Rattle.work_share.specs.Outcomes.{plain_outcome};
 ghost use Rattle.work_share.specs.Tasks.{IfJob, reply_of};
 ghost use Rattle.work_share.specs.Exploring.{IsFoundAt, PutsFound, HandsIn};

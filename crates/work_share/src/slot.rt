@@ -1,6 +1,6 @@
 //! The entries of a board as they are stored, each at the index of its number.
 ghost use Rattle.std.specs.Prelude.{◌≡◌, ◌<◌, ℕ, MatchBool, vec_len, vec_capacity};
-ghost use Rattle.board_terms.specs.Board.{TaskEntry, Out as PlainOut};
+ghost use Rattle.work_share.specs.Board.{TaskEntry, Out as PlainOut};
 ghost use Rattle.work_share.specs.Outcomes.{plain_outcome};
 ghost use Rattle.work_share.specs.Slots.{entry_of, with_slot};
 ghost use Rattle.work_share.specs.Fronts.{piece_of, outcome_piece};

@@ -1,6 +1,6 @@
 //! The stack of the tasks that wait, the leftmost on top.
 ghost use Rattle.std.specs.Prelude.{◌≡◌, ◌≤◌, ◌+◌, ◌++◌, length, reverse, take, drop, vec_len, vec_capacity};
-ghost use Rattle.board_terms.specs.Kept.{leads_left};
+ghost use Rattle.work_share.specs.Kept.{leads_left};
 ghost use Rattle.work_share.specs.Stacks.{count_left};
 
 use crate::task::Task;

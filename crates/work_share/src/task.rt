@@ -12,7 +12,7 @@ pub struct Task {
 
 impl Model for Task {
     ghost use Rattle.std.specs.Prelude.{◌<◌, ◌^◌, length};
-    ghost use Rattle.board_terms.specs.Board.{PlainTask};
+    ghost use Rattle.work_share.specs.Board.{PlainTask};
 
     ghost Value = { PlainTask };
 

@@ -1,6 +1,6 @@
 use Rattle.std.proofs.Common.{take}
 use Rattle.pack_streams.specs.Writing.{Continues}
-use Rattle.bounded_terms.specs.BoundedLines.{bounded_token_text}
+use Rattle.verdict_terms.specs.BoundedLines.{bounded_token_text}
 use Rattle.bounded_tokens.specs.Plain.{plain_bounded_tokens}
 use Rattle.answer_streams.proofs.bounded_documents.write_priced_tokens.Given as goal
 

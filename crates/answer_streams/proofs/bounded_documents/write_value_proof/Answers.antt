@@ -1,6 +1,6 @@
 use Rattle.std.proofs.Common.{◌∙◌, sym, ap, codes, ◌++◌, List}
 use Rattle.pack_streams.proofs.Writers.{more, same}
-use Rattle.bounded_terms.specs.BoundedLines.{bounded_token_text}
+use Rattle.verdict_terms.specs.BoundedLines.{bounded_token_text}
 use Rattle.bounded_tokens.specs.declared.token.BoundedToken.{BoundedToken}
 use Rattle.bounded_tokens.specs.Plain.{plain_bounded_tokens}
 use Rattle.bounded_choice.specs.declared.levels.ValueProof.{ValueProof}

@@ -1,6 +1,6 @@
 use Rattle.std.proofs.Common.{◌∙◌, sym, ap, codes, ◌++◌, List}
 use Rattle.pack_streams.proofs.Writers.{more, same}
-use Rattle.family_terms.specs.FamilyLines.{family_token_text}
+use Rattle.verdict_terms.specs.FamilyLines.{family_token_text}
 use Rattle.family_tokens.specs.declared.token.FamilyToken.{FamilyToken}
 use Rattle.family_tokens.specs.Plain.{plain_family_tokens}
 use Rattle.bounded_heights.specs.declared.levels.HeightProof.{HeightProof}

@@ -1,6 +1,6 @@
 use Rattle.std.proofs.Common.{◌∙◌, arith}
 use Rattle.pack_streams.proofs.Writers.{none, more, same}
-use Rattle.explained_terms.specs.Steps.PlainStep.{On}
+use Rattle.verdict_terms.specs.Steps.PlainStep.{On}
 use Rattle.line_proofs.specs.Plain.{plain_step}
 use Rattle.answer_streams.proofs.ExplainedTexts.{steps_more, steps_all}
 use Rattle.answer_streams.proofs.explained.write_steps_on.Goals as goal

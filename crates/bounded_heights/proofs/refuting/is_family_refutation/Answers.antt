@@ -1,6 +1,6 @@
 use Rattle.std.proofs.Common.{◌∙◌, ap, map, List}
 use Rattle.std.proofs.lemmas.List.{take_all}
-use Rattle.check_terms.specs.Checking.{is_whole}
+use Rattle.verdict_terms.specs.Checking.{is_whole}
 use Rattle.family_tokens.specs.declared.token.FamilyToken.{FamilyToken}
 use Rattle.family_tokens.specs.Plain.{plain_family}
 use Rattle.family_check.specs.FamilyRefuters.{PlainFamilyRefuter}

@@ -1,5 +1,5 @@
 use Rattle.std.proofs.Common.{◌≤◌, sym, subst, ℕ, List, [], ◌∷◌, length}
-use Rattle.family_terms.specs.FamilyLines.{most_joining}
+use Rattle.verdict_terms.specs.FamilyLines.{most_joining}
 use Rattle.family_tokens.specs.declared.token.FamilyToken.{FamilyToken}
 use Rattle.family_tokens.specs.Plain.{plain_family}
 use Rattle.answer_terms.specs.HeightAnswers.{AreJoining}

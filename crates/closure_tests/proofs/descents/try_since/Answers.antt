@@ -2,9 +2,9 @@ use Rattle.std.proofs.Common.{List, subst, sym}
 use Rattle.packing_terms.specs.declared.Exclusion.{Exclusion}
 use Rattle.packing_terms.specs.Exclusions.{excludes, exclusion_at}
 use Rattle.packing_terms.specs.Closure.{IsStable}
-use Rattle.rule_terms.specs.Places.{HasNoEmptyMask}
-use Rattle.rule_terms.specs.Steps.{with_exclusion}
-use Rattle.closure_terms.proofs.Undone.{back_one, within_one, back_all}
+use Rattle.packing_terms.specs.Places.{HasNoEmptyMask}
+use Rattle.packing_terms.specs.Steps.{with_exclusion}
+use Rattle.edge_state.proofs.Undone.{back_one, within_one, back_all}
 use Rattle.closure_tests.proofs.descents.try_since.Goals as goal
 
 pub close_since-requires-clause-mark : goal.close_since-requires-clause-mark

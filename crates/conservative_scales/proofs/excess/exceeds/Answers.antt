@@ -1,6 +1,6 @@
 use Rattle.std.proofs.Common.{arith}
 use Rattle.packing_terms.specs.Scales.{Exceeds}
-use Rattle.scale_terms.proofs.Excess.{excess_law}
+use Rattle.packing_terms.proofs.Excess.{excess_law}
 use Rattle.conservative_scales.proofs.Products.{excess_at_end, excess_is_told}
 use Rattle.conservative_scales.proofs.excess.exceeds.Goals as goal
 

@@ -3,7 +3,7 @@ use Rattle.conservative_scales.proofs.Named.{named_fits, image_of_named, in_posi
 use Rattle.conservative_scales.proofs.Products.{total_next, excess_at_end, excess_is_told}
 use Rattle.packing_terms.specs.Packing.{box_count}
 use Rattle.packing_terms.specs.Goals.{subset}
-use Rattle.scale_terms.proofs.Excess.{excess_law}
+use Rattle.packing_terms.proofs.Excess.{excess_law}
 use Rattle.packing_terms.specs.Scales.{Exceeds}
 use Rattle.std.proofs.lemmas.List.{length-map}
 use Rattle.std.proofs.Common.{sym, ◌≡◌}

@@ -8,7 +8,7 @@ use Rattle.packing_terms.specs.Tuples.{first_excess}
 use Rattle.packing_terms.specs.declared.ScaleFn.{ScaleFn}
 use Rattle.packing_terms.proofs.Internal.{internal_sides, some_box}
 use Rattle.packing_terms.proofs.Listed.{first_exceeds, container_wide}
-use Rattle.scale_terms.proofs.Excess.{excess_law}
+use Rattle.packing_terms.proofs.Excess.{excess_law}
 use Rattle.conservative_scales.proofs.search.first_exceeding.Goals as goal
 
 module _ {X : Type 0} (items : X → List ScaleFn) (instance : PlainInstance) (c : ℕ)

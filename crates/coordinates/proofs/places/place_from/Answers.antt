@@ -3,7 +3,7 @@ use Rattle.packing_terms.specs.Packing.{dims}
 use Rattle.packing_terms.specs.Exclusions.{excludes}
 use Rattle.packing_terms.proofs.Internal.{internal_sides}
 use Rattle.packing_terms.proofs.Sets.{excludes_symmetric}
-use Rattle.rule_terms.proofs.PlacesLemmas.{places_pack}
+use Rattle.packing_terms.proofs.PlacesLemmas.{places_pack}
 use Rattle.coordinates.proofs.StartLemmas.{trans_at, ends_are}
 use Rattle.coordinates.proofs.places.place_from.Goals as goal
 

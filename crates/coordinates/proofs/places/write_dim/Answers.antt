@@ -2,8 +2,8 @@ use Rattle.std.proofs.Common.{arith, ◌<◌, ◌≡◌, ◌∙◌}
 use Rattle.packing_terms.specs.Packing.{box_count, dims}
 use Rattle.packing_terms.specs.Exclusions.{excludes}
 use Rattle.packing_terms.proofs.Internal.{side_small}
-use Rattle.rule_terms.proofs.Runs.{run_small, few_boxes}
-use Rattle.rule_terms.proofs.Turned.{run_of_head}
+use Rattle.packing_terms.proofs.Runs.{run_small, few_boxes}
+use Rattle.packing_terms.proofs.Turned.{run_of_head}
 use Rattle.coordinates.proofs.StartLemmas.{write_next, write_other}
 use Rattle.coordinates.proofs.places.write_dim.Goals as goal
 

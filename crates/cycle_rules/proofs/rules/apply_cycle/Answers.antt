@@ -2,8 +2,8 @@ use Rattle.std.proofs.Common.{sym, ◌∙◌}
 use Rattle.std.proofs.lemmas.Bool.{and_parts}
 use Rattle.packing_terms.specs.declared.Rel.TheVariants.{Overlap}
 use Rattle.packing_terms.specs.Rules.{Cycle}
-use Rattle.rule_terms.proofs.Applied.{applied_by}
-use Rattle.rule_terms.proofs.AppliedSound.{applied_sound_among}
+use Rattle.packing_terms.proofs.Applied.{applied_by}
+use Rattle.packing_terms.proofs.AppliedSound.{applied_sound_among}
 use Rattle.relation_table.specs.Masks.{mask_has}
 use Rattle.orientation_rules.proofs.Keeps.{one_drops, one_only, overlap_alone, is_shut}
 use Rattle.cycle_rules.proofs.rules.apply_cycle.Goals as goal

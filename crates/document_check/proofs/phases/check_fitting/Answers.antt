@@ -1,5 +1,5 @@
 use Rattle.std.proofs.Common.{subst, None}
-use Rattle.document_terms.specs.declared.claim.Claim.TheVariants.{Fitting}
+use Rattle.text_terms.specs.declared.claim.Claim.TheVariants.{Fitting}
 use Rattle.verdict_terms.specs.Stages.{Stage}
 use Rattle.verdict_terms.specs.Stages.Stage.{Ending}
 use Rattle.document_check.specs.Passes.{IsCheckedFrom}

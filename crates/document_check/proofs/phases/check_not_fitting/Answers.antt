@@ -1,6 +1,6 @@
 use Rattle.std.proofs.Common.{◌∙◌, sym, ap, subst}
-use Rattle.document_terms.specs.declared.claim.Claim.{Claim}
-use Rattle.document_terms.specs.declared.claim.Claim.TheVariants.{NotFitting}
+use Rattle.text_terms.specs.declared.claim.Claim.{Claim}
+use Rattle.text_terms.specs.declared.claim.Claim.TheVariants.{NotFitting}
 use Rattle.verdict_terms.specs.Stages.{Stage, claimed}
 use Rattle.verdict_terms.specs.Stages.Stage.{Refuting}
 use Rattle.document_check.specs.Passes.{IsCheckedFrom}

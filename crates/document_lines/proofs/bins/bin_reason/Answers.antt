@@ -2,7 +2,7 @@ use Rattle.std.proofs.Common.{◌∙◌, ◌<◌, ◌*◌, sym, ap, ap₂, subst
 use Rattle.std.specs.List.{All}
 use Rattle.packing_terms.specs.Packing.{dims, box_count}
 use Rattle.packing_terms.specs.Goals.{IsBoxSet, subset, in_bin, places_of}
-use Rattle.check_terms.specs.Placing.{place_verdict}
+use Rattle.verdict_terms.specs.Placing.{place_verdict}
 use Rattle.verdict_terms.specs.Stages.{groups_reason}
 use Rattle.verdict_terms.proofs.BinsGood.{set_places}
 use Rattle.document_lines.proofs.BoxesIn.{bin_set}

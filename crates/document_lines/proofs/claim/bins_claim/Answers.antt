@@ -1,7 +1,7 @@
 use Rattle.std.proofs.Common.{◌∙◌, ap, arith, get_or}
 use Rattle.std.proofs.Common.{codes, []}
-use Rattle.document_terms.specs.declared.claim.SolvingJob.TheVariants.{Bins}
-use Rattle.document_terms.specs.declared.claim.Claim.TheVariants.{LeastBins, BinsBetween}
+use Rattle.text_terms.specs.declared.claim.SolvingJob.TheVariants.{Bins}
+use Rattle.text_terms.specs.declared.claim.Claim.TheVariants.{LeastBins, BinsBetween}
 use Rattle.verdict_terms.specs.Results.{one_claim, two_claim}
 use Rattle.document_lines.proofs.Lengths.{counted, uncounted}
 use Rattle.document_lines.proofs.Claims.{bins_none, bins_least, bins_between, no_claim}

@@ -1,5 +1,5 @@
 use Rattle.std.proofs.Common.{◌∙◌, arith}
-use Rattle.document_terms.specs.declared.claim.SolvingJob.TheVariants.{Strip}
+use Rattle.text_terms.specs.declared.claim.SolvingJob.TheVariants.{Strip}
 use Rattle.document_lines.proofs.Lengths.{counted, uncounted}
 use Rattle.document_lines.proofs.Claims.{strip_none, strip_least, strip_between, no_claim}
 use Rattle.document_lines.proofs.claim.strip_claim.Goals as goal

@@ -3,7 +3,7 @@ use Rattle.packing_terms.specs.declared.Rel.TheVariants.{Before}
 use Rattle.packing_terms.specs.Packing.{container_side}
 use Rattle.packing_terms.specs.Rules.{Chain, weight}
 use Rattle.packing_terms.specs.Exclusions.{excludes}
-use Rattle.rule_terms.proofs.Applied.{applied_by}
+use Rattle.packing_terms.proofs.Applied.{applied_by}
 use Rattle.relation_table.specs.Masks.{mask_has}
 use Rattle.orientation_rules.proofs.Keeps.{rest_drops, rest_only, full_without}
 use Rattle.early_chains.proofs.ToldChains.{emptied}

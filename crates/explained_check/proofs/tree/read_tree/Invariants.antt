@@ -1,6 +1,6 @@
 use Rattle.std.proofs.Common.{length, ◌≡◌}
-use Rattle.explained_documents.specs.Stages.{Explaining}
-use Rattle.line_cursor.specs.Lines.{IsAmong, lines_left}
+use Rattle.verdict_terms.specs.ExplainedDocumentStages.{Explaining}
+use Rattle.instance_text.specs.Lines.{IsAmong, lines_left}
 use Rattle.explained_check.specs.Audits.{verdict_left}
 use Rattle.explained_check.specs.Trees.{IsGoing}
 use Rattle.explained_check.proofs.tree.read_tree.Given as goal

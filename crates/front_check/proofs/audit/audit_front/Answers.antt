@@ -1,6 +1,6 @@
 use Rattle.std.proofs.Common.{◌∙◌, map, sym, arith}
 use Rattle.std.proofs.lemmas.List.{length-map}
-use Rattle.front_terms.proofs.Judged.{good_lines_are_true}
+use Rattle.verdict_terms.proofs.FrontJudged.{good_lines_are_true}
 use Rattle.front_check.specs.Plain.{plain_line}
 use Rattle.front_check.proofs.Audited.{audited_good}
 use Rattle.front_check.proofs.audit.audit_front.Goals as goal

@@ -1,5 +1,5 @@
 use Rattle.std.proofs.Common.{◌+◌, ◌-◌, map, subst, []}
-use Rattle.front_terms.specs.Lines.{PointAt}
+use Rattle.verdict_terms.specs.Lines.{PointAt}
 use Rattle.front_check.specs.declared.parts.Reading.{Reading}
 use Rattle.front_check.specs.Plain.{plain_line}
 use Rattle.front_check.specs.Audits.{plain_stage, placing, pointed, IsReadPoint}

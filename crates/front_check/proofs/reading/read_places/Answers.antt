@@ -2,9 +2,9 @@ use Rattle.std.proofs.Common.{rules, ◌≡◌, ◌∙◌, ◌*◌, ◌++◌, �
 use Rattle.std.proofs.Common.{not, if◌then◌else◌}
 use Rattle.std.proofs.lemmas.List.{length-map}
 use Rattle.packing_terms.specs.Packing.{PlainInstance, box_count}
-use Rattle.check_terms.specs.Placing.{place_verdict}
-use Rattle.front_terms.specs.Fronts.{with_container}
-use Rattle.front_terms.specs.Lines.{PlaceAt}
+use Rattle.verdict_terms.specs.Placing.{place_verdict}
+use Rattle.verdict_terms.specs.Fronts.{with_container}
+use Rattle.verdict_terms.specs.Lines.{PlaceAt}
 use Rattle.front_check.specs.declared.parts.Reading.{Reading}
 use Rattle.front_check.specs.Plain.{plain_line}
 use Rattle.front_check.specs.Audits.{IsReadPoint}

@@ -1,7 +1,7 @@
 use Rattle.std.proofs.Common.{map, refl, ap, arith}
 use Rattle.std.proofs.lemmas.List.{length-map}
 use Rattle.proof_tree.specs.Plain.{plain_token}
-use Rattle.front_terms.specs.Lines.{TreeToken}
+use Rattle.verdict_terms.specs.Lines.{TreeToken}
 use Rattle.front_check.specs.Plain.{plain_line}
 use Rattle.front_check.proofs.Audited.{stands_as, as_form, tree_begun, tree_more, tree_done, tree_refused, tree_stopped}
 use Rattle.front_check.proofs.Audited.{tree_short}

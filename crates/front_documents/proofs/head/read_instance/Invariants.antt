@@ -1,9 +1,9 @@
 use Rattle.std.proofs.Common.{length, ◌≡◌}
 use Rattle.text_terms.specs.Texts.{no_parts}
-use Rattle.front_verdict_terms.specs.Verdicts.{Reading}
-use Rattle.line_cursor.specs.Lines.{IsAmong, lines_left}
+use Rattle.verdict_terms.specs.FrontDocumentVerdicts.{Reading}
+use Rattle.instance_text.specs.Lines.{IsAmong, lines_left}
 use Rattle.front_documents.specs.Audits.{verdict_left}
-use Rattle.line_cursor.specs.Readers.{held_parts, IsHeldHead}
+use Rattle.instance_text.specs.Readers.{held_parts, IsHeldHead}
 use Rattle.front_documents.proofs.head.read_instance.Given as goal
 
 abbrev pub invariant-loop-reader : goal.invariant-loop-reader

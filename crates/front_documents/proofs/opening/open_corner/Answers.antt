@@ -1,5 +1,5 @@
 use Rattle.std.proofs.Common.{◌∙◌, ◌-◌, ℕ, sym, ap, ap₂, Err}
-use Rattle.front_terms.specs.Lines.{cornered, corner_line}
+use Rattle.verdict_terms.specs.Lines.{cornered, corner_line}
 use Rattle.front_check.specs.Audits.{plain_part}
 use Rattle.front_documents.proofs.Opened.{small_sides, corner_opened, corner_refused}
 use Rattle.front_documents.proofs.opening.open_corner.Goals as goal

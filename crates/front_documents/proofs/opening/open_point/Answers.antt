@@ -1,5 +1,5 @@
 use Rattle.std.proofs.Common.{◌∙◌, ◌-◌, ℕ, [], sym, ap, ap₂, Err}
-use Rattle.front_terms.specs.Lines.{point_line}
+use Rattle.verdict_terms.specs.Lines.{point_line}
 use Rattle.front_check.specs.Audits.{placing}
 use Rattle.front_check.specs.Audits.{plain_part}
 use Rattle.front_documents.proofs.Opened.{small_sides, point_opened, point_refused}

@@ -1,7 +1,7 @@
 use Rattle.std.proofs.Common.{rules, ◌≡◌, ◌∙◌, ◌*◌, ℕ, List, length, vec_len, sym, ap, ap₂, subst, arith, Option, Err}
 use Rattle.packing_terms.specs.Packing.{PlainInstance, box_count}
 use Rattle.verdict_terms.specs.declared.reason.Reason.{Reason}
-use Rattle.front_terms.specs.Fronts.{with_container}
+use Rattle.verdict_terms.specs.Fronts.{with_container}
 use Rattle.front_documents.specs.declared.audit.FrontAudit.{FrontAudit}
 use Rattle.text_terms.specs.Feeding.{ended_line}
 use Rattle.front_documents.specs.declared.reading.PlaceStop.{PlaceStop}

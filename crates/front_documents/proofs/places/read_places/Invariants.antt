@@ -1,5 +1,5 @@
 use Rattle.std.proofs.Common.{length}
-use Rattle.line_cursor.specs.Lines.{IsAmong, lines_left}
+use Rattle.instance_text.specs.Lines.{IsAmong, lines_left}
 use Rattle.front_documents.proofs.Read.{IsPlacesRead}
 use Rattle.front_documents.proofs.places.read_places.Given as goal
 

@@ -1,7 +1,7 @@
 use Rattle.std.proofs.Common.{◌∙◌, sym, subst, Option, Result, Ok}
 use Rattle.text_terms.specs.Feeding.{ended_line}
 use Rattle.verdict_terms.specs.Documents.{Refusal}
-use Rattle.front_verdict_terms.specs.Verdicts.{FrontRead, Ended}
+use Rattle.verdict_terms.specs.FrontDocumentVerdicts.{FrontRead, Ended}
 use Rattle.front_check.specs.Audits.{plain_stage}
 use Rattle.front_documents.specs.declared.opening.OpenPart.{OpenPart}
 use Rattle.front_documents.specs.Audits.{IsVerdict, claim_of}

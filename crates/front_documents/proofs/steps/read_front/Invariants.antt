@@ -1,7 +1,7 @@
 use Rattle.std.proofs.Common.{length, ◌≡◌}
-use Rattle.front_terms.specs.Lines.{announced}
+use Rattle.verdict_terms.specs.Lines.{announced}
 use Rattle.front_check.specs.Audits.{plain_stage, IsPartInside}
-use Rattle.line_cursor.specs.Lines.{IsAmong, lines_left}
+use Rattle.instance_text.specs.Lines.{IsAmong, lines_left}
 use Rattle.front_documents.specs.Audits.{verdict_left}
 use Rattle.front_documents.specs.Parts.{at_front}
 use Rattle.front_documents.proofs.steps.read_front.Given as goal

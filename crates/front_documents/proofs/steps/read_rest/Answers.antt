@@ -1,4 +1,4 @@
-use Rattle.front_verdict_terms.specs.Verdicts.{Ended}
+use Rattle.verdict_terms.specs.FrontDocumentVerdicts.{Ended}
 use Rattle.front_documents.specs.Audits.{claim_of}
 use Rattle.front_documents.proofs.steps.read_rest.Goals as goal
 

@@ -1,5 +1,5 @@
 use Rattle.std.proofs.Common.{length}
-use Rattle.line_cursor.specs.Lines.{IsAmong, lines_left}
+use Rattle.instance_text.specs.Lines.{IsAmong, lines_left}
 use Rattle.front_documents.proofs.Read.{IsTreeRead}
 use Rattle.front_documents.proofs.tree.read_tree.Given as goal
 

@@ -3,8 +3,8 @@ use Rattle.std.proofs.lemmas.Bool.{or_parts}
 use Rattle.packing_terms.specs.Packing.{box_count, side}
 use Rattle.packing_terms.specs.Exclusions.{excludes}
 use Rattle.edge_state.specs.BitRows.{row_has}
-use Rattle.rule_terms.specs.Runs.{Leads}
-use Rattle.rule_terms.proofs.Runs.{heaviest}
+use Rattle.packing_terms.specs.Runs.{Leads}
+use Rattle.packing_terms.proofs.Runs.{heaviest}
 use Rattle.orientation_rules.proofs.HandedOn.{handed_next, handed_less}
 use Rattle.orientation_rules.proofs.incremental.hand_on_all.Goals as goal
 

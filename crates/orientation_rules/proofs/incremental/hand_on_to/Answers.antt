@@ -4,8 +4,8 @@ use Rattle.packing_terms.specs.Packing.{side}
 use Rattle.packing_terms.specs.Exclusions.{excludes}
 use Rattle.edge_state.specs.BitRows.{row_has}
 use Rattle.edge_state.proofs.RowBits.{members_fewer}
-use Rattle.rule_terms.specs.Runs.{Leads}
-use Rattle.rule_terms.proofs.Runs.{raise_trans}
+use Rattle.packing_terms.specs.Runs.{Leads}
+use Rattle.packing_terms.proofs.Runs.{raise_trans}
 use Rattle.orientation_rules.proofs.HandedOn.{raised_next, stays_next, within_next, none_next, grows_next, left_part}
 use Rattle.orientation_rules.proofs.HandedOn.{least_trans}
 use Rattle.orientation_rules.proofs.incremental.hand_on_to.Goals as goal

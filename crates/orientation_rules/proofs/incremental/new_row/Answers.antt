@@ -2,8 +2,8 @@ use Rattle.std.proofs.Common.{◌≡◌, ◌<◌, ◌∙◌, ◌⊎◌, inl, inr
 use Rattle.std.proofs.lemmas.Bool.{and_parts, cases_Bool}
 use Rattle.packing_terms.specs.Exclusions.{excludes}
 use Rattle.edge_state.specs.BitRows.{row_has}
-use Rattle.rule_terms.specs.declared.Direction.TheVariants.{Forwards}
-use Rattle.rule_terms.specs.Runs.{Leads}
+use Rattle.packing_terms.specs.declared.Direction.TheVariants.{Forwards}
+use Rattle.packing_terms.specs.Runs.{Leads}
 use Rattle.orientation_rules.specs.CachedChainWeights.{GoesOn}
 use Rattle.orientation_rules.proofs.KeptRuns.{get_any, none_out}
 use Rattle.orientation_rules.proofs.incremental.new_row.Goals as goal

@@ -1,7 +1,7 @@
 use Rattle.packing_terms.specs.Packing.{box_count, side}
 use Rattle.packing_terms.specs.Exclusions.{excludes}
 use Rattle.edge_state.specs.BitRows.{row_has}
-use Rattle.rule_terms.specs.Runs.{Leads}
+use Rattle.packing_terms.specs.Runs.{Leads}
 use Rattle.orientation_rules.proofs.HandedOn.{led_all}
 use Rattle.orientation_rules.proofs.incremental.raise_predecessors.Goals as goal
 

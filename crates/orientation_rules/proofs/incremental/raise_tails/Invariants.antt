@@ -1,7 +1,7 @@
 use Rattle.std.proofs.Common.{◌≡◌, ◌<◌, ◌*◌, ℕ, true, false, slice_index}
 use Rattle.packing_terms.specs.Packing.{box_count}
 use Rattle.edge_state.specs.BitRows.{row_has, members_below}
-use Rattle.rule_terms.specs.declared.Direction.TheVariants.{Forwards}
+use Rattle.packing_terms.specs.declared.Direction.TheVariants.{Forwards}
 use Rattle.orientation_rules.specs.Weights.{AreWeights, IsWeighedAt}
 use Rattle.orientation_rules.specs.CachedChainWeights.{GoesOn}
 use Rattle.orientation_rules.proofs.incremental.raise_tails.Given as goal

@@ -3,8 +3,8 @@ use Rattle.std.proofs.lemmas.Bool.{true≢false}
 use Rattle.packing_terms.specs.Packing.{box_count}
 use Rattle.packing_terms.specs.Exclusions.{excludes}
 use Rattle.edge_state.specs.BitRows.{row_has}
-use Rattle.rule_terms.specs.declared.Direction.TheVariants.{Forwards}
-use Rattle.rule_terms.specs.Runs.{Leads}
+use Rattle.packing_terms.specs.declared.Direction.TheVariants.{Forwards}
+use Rattle.packing_terms.specs.Runs.{Leads}
 use Rattle.orientation_rules.proofs.KeptRuns.{below_next, row_of}
 use Rattle.orientation_rules.proofs.kept.boxes_ahead.Goals as goal
 

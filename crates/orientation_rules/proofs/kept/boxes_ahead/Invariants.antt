@@ -2,8 +2,8 @@ use Rattle.std.proofs.Common.{◌≡◌, ◌<◌, ℕ, true, false}
 use Rattle.packing_terms.specs.Packing.{box_count}
 use Rattle.packing_terms.specs.Exclusions.{excludes}
 use Rattle.edge_state.specs.BitRows.{row_has}
-use Rattle.rule_terms.specs.declared.Direction.TheVariants.{Forwards}
-use Rattle.rule_terms.specs.Runs.{Leads}
+use Rattle.packing_terms.specs.declared.Direction.TheVariants.{Forwards}
+use Rattle.packing_terms.specs.Runs.{Leads}
 use Rattle.orientation_rules.proofs.kept.boxes_ahead.Given as goal
 
 abbrev pub invariant-loop-v : goal.invariant-loop-v

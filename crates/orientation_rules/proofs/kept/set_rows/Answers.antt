@@ -4,8 +4,8 @@ use Rattle.packing_terms.specs.Packing.{box_count}
 use Rattle.packing_terms.specs.Exclusions.{excludes}
 use Rattle.edge_state.specs.BitRows.{row_has}
 use Rattle.edge_state.proofs.RowBits.{members_fewer}
-use Rattle.rule_terms.specs.declared.Direction.TheVariants.{Forwards}
-use Rattle.rule_terms.specs.Runs.{Leads}
+use Rattle.packing_terms.specs.declared.Direction.TheVariants.{Forwards}
+use Rattle.packing_terms.specs.Runs.{Leads}
 use Rattle.orientation_rules.proofs.HandedOn.{left_part, off_left}
 use Rattle.orientation_rules.proofs.KeptRuns.{row_set, row_of}
 use Rattle.orientation_rules.proofs.kept.set_rows.Goals as goal

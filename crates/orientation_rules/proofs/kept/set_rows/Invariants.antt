@@ -2,8 +2,8 @@ use Rattle.std.proofs.Common.{◌≡◌, ◌<◌, ◌*◌, ℕ, true, false, len
 use Rattle.packing_terms.specs.Packing.{box_count}
 use Rattle.packing_terms.specs.Exclusions.{excludes}
 use Rattle.edge_state.specs.BitRows.{row_has, members_below}
-use Rattle.rule_terms.specs.declared.Direction.TheVariants.{Forwards}
-use Rattle.rule_terms.specs.Runs.{Leads}
+use Rattle.packing_terms.specs.declared.Direction.TheVariants.{Forwards}
+use Rattle.packing_terms.specs.Runs.{Leads}
 use Rattle.orientation_rules.specs.CachedChainWeights.{GoesOn}
 use Rattle.orientation_rules.proofs.kept.set_rows.Given as goal
 

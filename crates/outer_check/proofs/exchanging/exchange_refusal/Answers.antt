@@ -1,6 +1,6 @@
 use Rattle.std.proofs.Common.{◌-◌, sym, ◌∙◌, true, false, ap₂, ◌&&◌}
 use Rattle.std.proofs.lemmas.Bool.{and_parts}
-use Rattle.check_terms.specs.Judging.{names_box}
+use Rattle.verdict_terms.specs.Judging.{names_box}
 use Rattle.outer_check.proofs.BoxExchanges.{named, unnamed_exchange, named_exchange}
 use Rattle.outer_check.proofs.exchanging.exchange_refusal.Goals as goal
 

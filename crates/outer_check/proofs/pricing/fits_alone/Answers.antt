@@ -2,7 +2,7 @@ use Rattle.std.proofs.Common.{arith}
 use Rattle.std.specs.Prelude.{nat_le}
 use Rattle.std.proofs.lemmas.Bool.{lt-leb}
 use Rattle.packing_terms.specs.Packing.{dims, container_side, side}
-use Rattle.check_terms.proofs.TupleTests.{not_all_below}
+use Rattle.verdict_terms.proofs.TupleTests.{not_all_below}
 use Rattle.outer_check.proofs.pricing.fits_alone.Goals as goal
 
 pub returns-then-side-container_side : goal.returns-then-side-container_side

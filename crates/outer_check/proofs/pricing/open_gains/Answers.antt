@@ -1,5 +1,5 @@
 use Rattle.std.proofs.Common.{◌≡◌, suc, ◌+◌, not, ap, ◌∙◌, arith}
-use Rattle.bounded_terms.specs.Shares.{gain}
+use Rattle.verdict_terms.specs.Shares.{gain}
 use Rattle.outer_check.specs.Frames.{is_decided}
 use Rattle.outer_check.proofs.Prices.{sum_more}
 use Rattle.outer_check.proofs.pricing.open_gains.Goals as goal

@@ -1,6 +1,6 @@
 use Rattle.std.proofs.Common.{◌≡◌, ◌≤◌, ◌*◌}
 use Rattle.std.specs.Prelude.{sum_by}
-use Rattle.bounded_terms.specs.Shares.{gain}
+use Rattle.verdict_terms.specs.Shares.{gain}
 use Rattle.outer_check.specs.Frames.{open_boxes}
 use Rattle.outer_check.proofs.pricing.open_gains.Given as goal
 

@@ -1,5 +1,5 @@
 use Rattle.std.proofs.Common.{◌∙◌, sym, arith, rules}
-use Rattle.check_terms.proofs.TupleTests.{legal_tuple}
+use Rattle.verdict_terms.proofs.TupleTests.{legal_tuple}
 use Rattle.outer_check.proofs.Prices.{price_long, price_closed, price_reached}
 use Rattle.outer_check.proofs.pricing.price_refusal.Goals as goal
 

@@ -1,5 +1,5 @@
 use Rattle.std.proofs.Common.{arith}
-use Rattle.bounded_terms.proofs.ShareSteps.{share_most}
+use Rattle.verdict_terms.proofs.ShareSteps.{share_most}
 use Rattle.outer_check.proofs.Prices.{alone_sides, by_steps}
 use Rattle.outer_check.proofs.pricing.share.Goals as goal
 

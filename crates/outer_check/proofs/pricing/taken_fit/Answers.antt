@@ -1,4 +1,4 @@
-use Rattle.bounded_terms.specs.Shares.{fits_alone}
+use Rattle.verdict_terms.specs.Shares.{fits_alone}
 use Rattle.outer_check.specs.Frames.{is_put}
 use Rattle.outer_check.proofs.Prices.{all_more}
 use Rattle.outer_check.proofs.pricing.taken_fit.Goals as goal

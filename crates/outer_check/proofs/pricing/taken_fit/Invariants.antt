@@ -1,6 +1,6 @@
 use Rattle.std.proofs.Common.{◌≡◌}
 use Rattle.std.specs.List.{list_all}
-use Rattle.bounded_terms.specs.Shares.{fits_alone}
+use Rattle.verdict_terms.specs.Shares.{fits_alone}
 use Rattle.outer_check.specs.Frames.{boxes_put}
 use Rattle.outer_check.proofs.pricing.taken_fit.Given as goal
 

@@ -1,5 +1,5 @@
 use Rattle.std.proofs.Common.{sym, ◌∙◌, arith}
-use Rattle.bounded_terms.specs.Shares.{share}
+use Rattle.verdict_terms.specs.Shares.{share}
 use Rattle.outer_check.specs.Frames.{is_put}
 use Rattle.outer_check.proofs.Prices.{sum_more, put_fits}
 use Rattle.outer_check.proofs.pricing.taken_shares.Goals as goal

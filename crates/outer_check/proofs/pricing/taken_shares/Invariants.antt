@@ -1,5 +1,5 @@
 use Rattle.std.proofs.Common.{◌≡◌, ◌≤◌, ◌*◌}
-use Rattle.bounded_terms.specs.Shares.{shares}
+use Rattle.verdict_terms.specs.Shares.{shares}
 use Rattle.outer_check.specs.Frames.{boxes_put}
 use Rattle.outer_check.proofs.pricing.taken_shares.Given as goal
 

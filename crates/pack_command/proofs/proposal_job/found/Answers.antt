@@ -1,5 +1,5 @@
 use Rattle.std.proofs.Common.{sym, subst}
-use Rattle.document_terms.specs.declared.claim.SolvingJob.{SolvingJob}
+use Rattle.text_terms.specs.declared.claim.SolvingJob.{SolvingJob}
 use Rattle.answer_streams.specs.declared.solution.Solution.TheVariants.{Fit, Strip, Bins, Knapsack}
 use Rattle.pack_command.specs.Proposed.{IsProposedSolution}
 use Rattle.pack_command.proofs.ProposedFit.{fit_proposed}

@@ -1,7 +1,7 @@
 use Rattle.std.proofs.Common.{refl, [], ◌∷◌}
 use Rattle.packing_terms.specs.declared.Rel.TheVariants.{Overlap, After}
 use Rattle.packing_terms.specs.Exclusions.{exclusion_at}
-use Rattle.rule_terms.proofs.ChainsMore.{head_more, tail_more}
+use Rattle.packing_terms.proofs.ChainsMore.{head_more, tail_more}
 use Rattle.pair_tests.proofs.WrittenStates.{full_by_test}
 use Rattle.pair_tests.proofs.rules.heaviest_chains_exclude_before.Goals as goal
 

@@ -1,5 +1,5 @@
 use Rattle.std.proofs.Common.{sym}
-use Rattle.check_terms.proofs.Places.{places_tested}
+use Rattle.verdict_terms.proofs.Places.{places_tested}
 use Rattle.placement_check.proofs.verdict.check_places.Goals as goal
 
 pub returns-clause-exact : goal.returns-clause-exact

@@ -1,6 +1,6 @@
 use Rattle.std.proofs.Common.{ℕ, ◌<◌}
 use Rattle.packing_terms.specs.Packing.{dims}
-use Rattle.check_terms.specs.Tested.{LiesWithin}
+use Rattle.verdict_terms.specs.Tested.{LiesWithin}
 use Rattle.placement_check.proofs.verdict.find_outside.Given as goal
 
 abbrev pub invariant-loop-box_no : goal.invariant-loop-box_no

@@ -1,5 +1,5 @@
 use Rattle.std.proofs.Common.{ℕ, ◌<◌}
-use Rattle.check_terms.specs.Tested.{LiesWithin}
+use Rattle.verdict_terms.specs.Tested.{LiesWithin}
 use Rattle.placement_check.proofs.verdict.leaving_dim.Given as goal
 
 abbrev pub invariant-loop-dim : goal.invariant-loop-dim

@@ -5,8 +5,8 @@ use Rattle.tree_terms.specs.Levels.{PlainLevel}
 use Rattle.tree_terms.specs.OuterSearch.{AreBinNumbers}
 use Rattle.tree_terms.proofs.OuterDecisions.{bin_tree_right}
 use Rattle.level_search.specs.Runs.{plain_level}
-use Rattle.level_bounds.specs.Bounds.{PlainBounds, plain_bounds, levels_left}
-use Rattle.level_bounds.proofs.Narrowing.{step}
+use Rattle.level_search.specs.Bounds.{PlainBounds, plain_bounds, levels_left}
+use Rattle.level_search.proofs.Narrowing.{step}
 use Rattle.proposed_answers.specs.Counts.{IsPastCount, IsBinsAnswer, AreBinBounds}
 use Rattle.proposed_answers.proofs.BinsAnswered.{bins_answered}
 use Rattle.proposed_answers.proofs.counts.narrow_bins.Goals as goal

@@ -1,5 +1,5 @@
 use Rattle.std.proofs.Common.{◌≡◌}
-use Rattle.level_bounds.specs.Bounds.{plain_bounds, levels_left}
+use Rattle.level_search.specs.Bounds.{plain_bounds, levels_left}
 use Rattle.proposed_answers.specs.Counts.{AreBinBounds}
 use Rattle.proposed_answers.proofs.counts.narrow_bins.Given as goal
 

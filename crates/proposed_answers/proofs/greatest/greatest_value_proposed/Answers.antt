@@ -1,6 +1,6 @@
 use Rattle.std.proofs.Common.{sym, subst}
 use Rattle.level_search.specs.Runs.{plain_reached}
-use Rattle.level_bounds.specs.Bounds.{PlainBounds, plain_bounds}
+use Rattle.level_search.specs.Bounds.{PlainBounds, plain_bounds}
 use Rattle.proposed_answers.specs.Values.{AreValueBounds}
 use Rattle.proposed_answers.proofs.ChoiceAnswered.{start_bounds, bounds_true, bounds_limited, bounds_past}
 use Rattle.proposed_answers.proofs.greatest.greatest_value_proposed.Goals as goal

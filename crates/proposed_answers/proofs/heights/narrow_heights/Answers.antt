@@ -1,8 +1,8 @@
 use Rattle.std.proofs.Common.{◌<◌, sym, subst}
 use Rattle.packing_terms.specs.Limits.{max_height}
 use Rattle.level_search.specs.Runs.{plain_level}
-use Rattle.level_bounds.specs.Bounds.{PlainBounds, plain_bounds, levels_left}
-use Rattle.level_bounds.proofs.Narrowing.{step}
+use Rattle.level_search.specs.Bounds.{PlainBounds, plain_bounds, levels_left}
+use Rattle.level_search.proofs.Narrowing.{step}
 use Rattle.proposed_answers.specs.Heights.{IsPackedAt, IsRefutedAt, IsPastHeight, AreHeightBounds}
 use Rattle.proposed_answers.proofs.heights.narrow_heights.Goals as goal
 

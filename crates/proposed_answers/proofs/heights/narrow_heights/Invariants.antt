@@ -1,4 +1,4 @@
-use Rattle.level_bounds.specs.Bounds.{plain_bounds, levels_left}
+use Rattle.level_search.specs.Bounds.{plain_bounds, levels_left}
 use Rattle.proposed_answers.specs.Heights.{AreHeightBounds}
 use Rattle.proposed_answers.proofs.heights.narrow_heights.Given as goal
 

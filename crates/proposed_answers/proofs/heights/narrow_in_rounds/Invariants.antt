@@ -1,4 +1,4 @@
-use Rattle.level_bounds.specs.Bounds.{plain_bounds, HasNoLevelLeft}
+use Rattle.level_search.specs.Bounds.{plain_bounds, HasNoLevelLeft}
 use Rattle.proposed_answers.specs.declared.effort.Effort.TheVariants.{Share}
 use Rattle.proposed_answers.specs.Heights.{AreHeightBounds}
 use Rattle.proposed_answers.proofs.heights.narrow_in_rounds.Given as goal

@@ -1,5 +1,5 @@
 use Rattle.std.proofs.Common.{ℕ, sym, subst, ap₂, ◌∙◌}
-use Rattle.level_bounds.specs.Bounds.{PlainBounds, first_bounds}
+use Rattle.level_search.specs.Bounds.{PlainBounds, first_bounds}
 use Rattle.bin_knapsack.specs.declared.bins.Bins.{Bins}
 use Rattle.bin_knapsack.specs.BinAnswers.{AreTrueBins}
 use Rattle.proposed_answers.specs.Counts.{AreFirstBounds, AreLimitedBins}

@@ -1,5 +1,5 @@
 use Rattle.std.proofs.Common.{Bool, subst}
-use Rattle.level_bounds.specs.Bounds.{plain_bounds}
+use Rattle.level_search.specs.Bounds.{plain_bounds}
 use Rattle.proposed_answers.proofs.BinsAnswered.{bounds_true, bounds_named, bounds_limited, bounds_past, past_within}
 use Rattle.proposed_answers.specs.Counts.{AreNeighboursPastBudget}
 use Rattle.proposed_answers.proofs.least.narrowed.Goals as goal

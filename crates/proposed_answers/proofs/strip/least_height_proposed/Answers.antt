@@ -1,5 +1,5 @@
 use Rattle.std.proofs.Common.{ℕ, sym, subst, ap₂, ◌∙◌}
-use Rattle.level_bounds.specs.Bounds.{PlainBounds, first_bounds}
+use Rattle.level_search.specs.Bounds.{PlainBounds, first_bounds}
 use Rattle.strip_solver.specs.declared.strip.Strip.{Strip}
 use Rattle.strip_solver.specs.Strips.{IsTrueStrip}
 use Rattle.proposed_answers.specs.declared.effort.Effort.TheVariants.{Root}

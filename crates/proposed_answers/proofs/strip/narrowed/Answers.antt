@@ -1,4 +1,4 @@
-use Rattle.level_bounds.specs.Bounds.{plain_bounds}
+use Rattle.level_search.specs.Bounds.{plain_bounds}
 use Rattle.proposed_answers.proofs.Strips.{bounds_true, bounds_named, bounds_past}
 use Rattle.proposed_answers.proofs.strip.narrowed.Goals as goal
 

@@ -2,7 +2,7 @@ use Rattle.std.proofs.Common.{◌≡◌, ◌∙◌, ◌<◌, sym, ap, arith, Lis
 use Rattle.packing_terms.specs.Tokens.{PlainToken}
 use Rattle.tree_terms.specs.Levels.{RefutedBy}
 use Rattle.proof_tree.specs.Plain.{plain_token}
-use Rattle.level_bounds.specs.Bounds.{plain_bounds, narrowed}
+use Rattle.level_search.specs.Bounds.{plain_bounds, narrowed}
 use Rattle.proposed_answers.specs.Values.{value_at}
 use Rattle.proposed_answers.proofs.Trees.{passed, tree_lowers}
 use Rattle.proposed_answers.proofs.upper.lowered.Goals as goal

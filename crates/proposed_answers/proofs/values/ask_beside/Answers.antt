@@ -1,6 +1,6 @@
 use Rattle.std.proofs.Common.{◌≡◌, pred, sym, subst, arith, ℕ}
 use Rattle.level_search.specs.Runs.{plain_level}
-use Rattle.level_bounds.specs.Bounds.{plain_bounds, IsAsked}
+use Rattle.level_search.specs.Bounds.{plain_bounds, IsAsked}
 use Rattle.proposed_answers.proofs.ChoiceAnswered.{asked_step}
 use Rattle.proposed_answers.proofs.values.ask_beside.Goals as goal
 

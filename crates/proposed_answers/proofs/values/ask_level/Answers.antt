@@ -1,5 +1,5 @@
 use Rattle.level_search.specs.Runs.{plain_level}
-use Rattle.level_bounds.specs.Bounds.{plain_bounds}
+use Rattle.level_search.specs.Bounds.{plain_bounds}
 use Rattle.proposed_answers.proofs.ChoiceAnswered.{asked_step}
 use Rattle.proposed_answers.proofs.values.ask_level.Goals as goal
 

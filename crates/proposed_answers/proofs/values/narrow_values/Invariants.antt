@@ -1,5 +1,5 @@
 use Rattle.std.proofs.Common.{◌≡◌}
-use Rattle.level_bounds.specs.Bounds.{plain_bounds, levels_left}
+use Rattle.level_search.specs.Bounds.{plain_bounds, levels_left}
 use Rattle.proposed_answers.specs.Values.{AreValueBounds}
 use Rattle.proposed_answers.proofs.values.narrow_values.Given as goal
 

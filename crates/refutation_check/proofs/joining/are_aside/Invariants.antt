@@ -1,6 +1,6 @@
 use Rattle.std.proofs.Common.{◌≡◌, take, drop}
 use Rattle.packing_terms.specs.Exclusions.{excludes}
-use Rattle.family_terms.specs.FamilyJudging.{are_aside}
+use Rattle.verdict_terms.specs.FamilyJudging.{are_aside}
 use Rattle.refutation_check.proofs.joining.are_aside.Given as goal
 
 abbrev pub invariant-loop-k : goal.invariant-loop-k

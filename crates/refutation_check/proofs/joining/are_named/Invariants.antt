@@ -1,6 +1,6 @@
 use Rattle.std.proofs.Common.{◌≡◌, drop}
 use Rattle.std.specs.List.{list_all}
-use Rattle.check_terms.specs.Judging.{names_box}
+use Rattle.verdict_terms.specs.Judging.{names_box}
 use Rattle.refutation_check.proofs.joining.are_named.Given as goal
 
 abbrev pub invariant-loop-k : goal.invariant-loop-k

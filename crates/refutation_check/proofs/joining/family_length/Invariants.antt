@@ -1,5 +1,5 @@
 use Rattle.std.proofs.Common.{◌≡◌, ◌≤◌, ◌*◌, take}
-use Rattle.family_terms.specs.Families.{family_length}
+use Rattle.verdict_terms.specs.Families.{family_length}
 use Rattle.refutation_check.proofs.joining.family_length.Given as goal
 
 abbrev pub invariant-loop-k : goal.invariant-loop-k

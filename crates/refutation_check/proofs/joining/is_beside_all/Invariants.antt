@@ -1,7 +1,7 @@
 use Rattle.std.proofs.Common.{◌≡◌, true, slice_index, take}
 use Rattle.std.specs.List.{list_all}
 use Rattle.packing_terms.specs.Exclusions.{excludes}
-use Rattle.family_terms.specs.FamilyJudging.{is_beside}
+use Rattle.verdict_terms.specs.FamilyJudging.{is_beside}
 use Rattle.refutation_check.proofs.joining.is_beside_all.Given as goal
 
 abbrev pub invariant-loop-j : goal.invariant-loop-j

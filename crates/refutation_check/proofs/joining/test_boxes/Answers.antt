@@ -1,8 +1,8 @@
 use Rattle.std.proofs.Common.{◌∙◌, sym, ap, take, drop, None}
 use Rattle.std.proofs.lemmas.Bool.{and_from}
 use Rattle.edge_state.specs.Edges.{PlainEdges}
-use Rattle.check_terms.specs.declared.answers.RefuseCode.TheVariants.{Range, Choice}
-use Rattle.check_terms.proofs.Judged.{unless_true, unless_false}
+use Rattle.verdict_terms.specs.declared.check_answers.RefuseCode.TheVariants.{Range, Choice}
+use Rattle.verdict_terms.proofs.Judged.{unless_true, unless_false}
 use Rattle.refutation_check.specs.Nodes.{node_exclusions}
 use Rattle.refutation_check.proofs.Beside.{no_join, join_told, tested_entered, all_named, named_among, joinable}
 use Rattle.refutation_check.proofs.joining.test_boxes.Goals as goal

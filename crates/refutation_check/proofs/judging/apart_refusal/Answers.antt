@@ -1,8 +1,8 @@
 use Rattle.std.proofs.Common.{◌∙◌, sym, None}
 use Rattle.packing_terms.specs.Tokens.PlainToken.{Apart as PlainApart}
-use Rattle.check_terms.specs.declared.answers.RefuseCode.TheVariants.{Range, Choice}
+use Rattle.verdict_terms.specs.declared.check_answers.RefuseCode.TheVariants.{Range, Choice}
 use Rattle.refutation_check.specs.Nodes.{node_exclusions}
-use Rattle.check_terms.proofs.Judged.{unless_true, unless_false}
+use Rattle.verdict_terms.proofs.Judged.{unless_true, unless_false}
 use Rattle.refutation_check.proofs.Judged.{no_part, part_told, judged_entered}
 use Rattle.refutation_check.proofs.judging.apart_refusal.Goals as goal
 

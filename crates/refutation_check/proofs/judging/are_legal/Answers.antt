@@ -1,8 +1,8 @@
 use Rattle.std.proofs.Common.{◌∙◌, arith}
 use Rattle.packing_terms.specs.Packing.{dims, container_side}
 use Rattle.packing_terms.specs.Scales.{function_at}
-use Rattle.check_terms.specs.Judging.{is_legal}
-use Rattle.check_terms.proofs.TupleTests.{all_below, not_all_below, next_below, legal_told}
+use Rattle.verdict_terms.specs.Judging.{is_legal}
+use Rattle.verdict_terms.proofs.TupleTests.{all_below, not_all_below, next_below, legal_told}
 use Rattle.refutation_check.proofs.judging.are_legal.Goals as goal
 
 pub returns-then-not-legal : goal.returns-then-not-legal

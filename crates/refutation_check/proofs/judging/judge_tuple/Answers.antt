@@ -1,5 +1,5 @@
 use Rattle.std.proofs.Common.{◌∙◌, sym, rules}
-use Rattle.check_terms.proofs.TupleTests.{legal_tuple, accepted, not_fitting, not_exceeding}
+use Rattle.verdict_terms.proofs.TupleTests.{legal_tuple, accepted, not_fitting, not_exceeding}
 use Rattle.refutation_check.proofs.judging.judge_tuple.Goals as goal
 
 pub exceeds-requires-clause-tuple : goal.exceeds-requires-clause-tuple

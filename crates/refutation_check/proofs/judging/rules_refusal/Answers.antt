@@ -1,9 +1,9 @@
 use Rattle.std.proofs.Common.{◌∙◌, sym, None}
 use Rattle.std.proofs.lemmas.Bool.{true≢false}
 use Rattle.packing_terms.specs.Tokens.PlainToken.{Rules as PlainRules}
-use Rattle.check_terms.specs.declared.answers.RefuseCode.TheVariants.{Conflict}
+use Rattle.verdict_terms.specs.declared.check_answers.RefuseCode.TheVariants.{Conflict}
 use Rattle.refutation_check.specs.Nodes.{node_exclusions}
-use Rattle.check_terms.proofs.Judged.{unless_true, unless_false}
+use Rattle.verdict_terms.proofs.Judged.{unless_true, unless_false}
 use Rattle.refutation_check.proofs.Judged.{conflict_told, judged_entered}
 use Rattle.refutation_check.proofs.judging.rules_refusal.Goals as goal
 

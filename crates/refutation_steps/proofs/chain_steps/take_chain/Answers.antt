@@ -1,7 +1,7 @@
 use Rattle.std.proofs.Common.{◌<◌, slice_index, arith, ap, List, ℕ}
 use Rattle.packing_terms.specs.Packing.{box_count, dims}
 use Rattle.packing_terms.proofs.Internal.{side_small}
-use Rattle.rule_terms.proofs.Runs.{run_small, few_boxes}
+use Rattle.packing_terms.proofs.Runs.{run_small, few_boxes}
 use Rattle.refutation_steps.proofs.Heavy.{light_sought}
 use Rattle.refutation_steps.proofs.chain_steps.take_chain.Goals as goal
 

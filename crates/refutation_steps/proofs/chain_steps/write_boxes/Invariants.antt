@@ -1,5 +1,5 @@
 use Rattle.std.proofs.Common.{◌≡◌, ◌++◌, take}
-use Rattle.explained_terms.specs.Steps.{box_lines}
+use Rattle.verdict_terms.specs.Steps.{box_lines}
 use Rattle.refutation_steps.proofs.chain_steps.write_boxes.Given as goal
 
 abbrev pub invariant-loop-v : goal.invariant-loop-v

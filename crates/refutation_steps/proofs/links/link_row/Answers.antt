@@ -2,7 +2,7 @@ use Rattle.std.proofs.Common.{arith, subst, sym}
 use Rattle.packing_terms.specs.Packing.{box_count}
 use Rattle.packing_terms.specs.Exclusions.{excludes}
 use Rattle.edge_state.specs.Edges.{PlainEdges}
-use Rattle.closure_terms.specs.States.{IsSized}
+use Rattle.edge_state.specs.States.{IsSized}
 use Rattle.refutation_steps.specs.Links.{IsLinkedAt}
 use Rattle.refutation_steps.proofs.Linked.{trying_start, trying_next, trying_stop, trying_end}
 use Rattle.refutation_steps.proofs.links.link_row.Goals as goal

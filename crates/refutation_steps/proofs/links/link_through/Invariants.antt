@@ -1,5 +1,5 @@
 use Rattle.std.proofs.Common.{◌+◌, ◌*◌, cond}
-use Rattle.explained_terms.specs.Kept.{opens}
+use Rattle.verdict_terms.specs.Kept.{opens}
 use Rattle.refutation_steps.proofs.Linked.{IsLinking}
 use Rattle.refutation_steps.proofs.links.link_through.Given as goal
 

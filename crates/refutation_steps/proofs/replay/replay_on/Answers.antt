@@ -1,6 +1,6 @@
 use Rattle.std.proofs.Common.{sym, subst, ℕ}
 use Rattle.edge_state.specs.Answers.{IsChangeAfter}
-use Rattle.closure_terms.proofs.Settled.{change_edge}
+use Rattle.edge_state.proofs.Settled.{change_edge}
 use Rattle.refutation_steps.proofs.Replayed.{so_far_start, so_far_next, replayed_end, replayed_stop, place_of}
 use Rattle.refutation_steps.proofs.replay.replay_on.Goals as goal
 

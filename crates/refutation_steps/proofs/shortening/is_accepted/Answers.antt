@@ -1,7 +1,7 @@
 use Rattle.std.proofs.Common.{◌∙◌, ap, arith}
 use Rattle.packing_terms.specs.Packing.{PlainInstance}
-use Rattle.explained_terms.specs.Auditing.{audited_with}
-use Rattle.explained_terms.specs.Steps.PlainStep.{On}
+use Rattle.verdict_terms.specs.Auditing.{audited_with}
+use Rattle.verdict_terms.specs.Steps.PlainStep.{On}
 use Rattle.line_proofs.specs.Auditors.{PlainAuditor}
 use Rattle.line_proofs.specs.Plain.{plain_step}
 use Rattle.refutation_steps.proofs.Shorter.{run_next, run_whole}

@@ -1,5 +1,5 @@
 use Rattle.std.proofs.Common.{◌≡◌, drop}
-use Rattle.explained_terms.specs.Auditing.{starting}
+use Rattle.verdict_terms.specs.Auditing.{starting}
 use Rattle.refutation_steps.proofs.Shorter.{run}
 use Rattle.refutation_steps.proofs.shortening.is_accepted.Given as goal
 

@@ -1,5 +1,5 @@
 use Rattle.std.proofs.Common.{◌≡◌, take, drop}
-use Rattle.explained_terms.specs.Steps.{tokens_among}
+use Rattle.verdict_terms.specs.Steps.{tokens_among}
 use Rattle.proof_tree.specs.Plain.{plain_tokens}
 use Rattle.refutation_steps.specs.Walks.{IsFor, IsBetween}
 use Rattle.refutation_steps.proofs.walk.explain_whole.Given as goal

@@ -1,5 +1,5 @@
 use Rattle.std.proofs.Common.{◌≡◌}
-use Rattle.explained_terms.specs.Steps.{tokens_among}
+use Rattle.verdict_terms.specs.Steps.{tokens_among}
 use Rattle.refutation_steps.proofs.written.write_reasons.Given as goal
 
 abbrev pub invariant-loop-at : goal.invariant-loop-at

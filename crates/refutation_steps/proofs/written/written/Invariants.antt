@@ -1,5 +1,5 @@
 use Rattle.std.proofs.Common.{◌≡◌, take}
-use Rattle.explained_terms.specs.Steps.{tokens_among}
+use Rattle.verdict_terms.specs.Steps.{tokens_among}
 use Rattle.proof_tree.specs.Plain.{plain_tokens}
 use Rattle.refutation_steps.proofs.written.written.Given as goal
 

@@ -7,8 +7,8 @@ use Rattle.packing_terms.specs.Exclusions.{excludes}
 use Rattle.edge_state.specs.BitRows.{row_has}
 use Rattle.edge_state.specs.Edges.{is_other_box}
 use Rattle.edge_state.proofs.Kept.{by_rel}
-use Rattle.closure_terms.specs.Rows.{in_each_relation}
-use Rattle.closure_terms.proofs.Beyond.{covered_beyond}
+use Rattle.edge_state.specs.Rows.{in_each_relation}
+use Rattle.edge_state.proofs.Beyond.{covered_beyond}
 use Rattle.rule_passes.proofs.Compositions.{any_of, none_left_out, within_found}
 use Rattle.rule_passes.proofs.candidates.beyond_compositions.Goals as goal
 

@@ -3,9 +3,9 @@ use Rattle.std.proofs.lemmas.Bool.{and_parts}
 use Rattle.packing_terms.specs.Exclusions.{excludes}
 use Rattle.packing_terms.specs.Rules.{Order}
 use Rattle.edge_state.specs.BitRows.{row_has}
-use Rattle.closure_terms.specs.Work.{IsCovered}
-use Rattle.closure_terms.proofs.Worked.{covered_no_instance}
-use Rattle.closure_terms.proofs.Filters.{covered_order_from, without_off}
+use Rattle.edge_state.specs.Work.{IsCovered}
+use Rattle.edge_state.proofs.Worked.{covered_no_instance}
+use Rattle.edge_state.proofs.Filters.{covered_order_from, without_off}
 use Rattle.rule_passes.proofs.candidates.beyond_orders_from.Goals as goal
 
 pub returns-clause-within : goal.returns-clause-within

@@ -7,9 +7,9 @@ use Rattle.packing_terms.specs.Exclusions.{excludes}
 use Rattle.packing_terms.specs.Rules.{Triple}
 use Rattle.edge_state.specs.BitRows.{row_has}
 use Rattle.edge_state.proofs.Kept.{row_open, row_shut}
-use Rattle.closure_terms.specs.Work.{IsCovered}
-use Rattle.closure_terms.proofs.Worked.{covered_no_instance}
-use Rattle.closure_terms.proofs.Filters.{covered_triple, without_off}
+use Rattle.edge_state.specs.Work.{IsCovered}
+use Rattle.edge_state.proofs.Worked.{covered_no_instance}
+use Rattle.edge_state.proofs.Filters.{covered_triple, without_off}
 use Rattle.rule_passes.proofs.RowStates.{not_true}
 use Rattle.rule_passes.proofs.candidates.beyond_triples.Goals as goal
 

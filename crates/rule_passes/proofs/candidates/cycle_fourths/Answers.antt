@@ -4,9 +4,9 @@ use Rattle.packing_terms.specs.Packing.{box_count}
 use Rattle.packing_terms.specs.Exclusions.{excludes}
 use Rattle.packing_terms.specs.Rules.{Cycle}
 use Rattle.edge_state.specs.BitRows.{row_has}
-use Rattle.closure_terms.specs.Work.{IsCovered}
-use Rattle.closure_terms.proofs.Filters.{without_off}
-use Rattle.closure_terms.proofs.Worked.{covered_no_instance}
+use Rattle.edge_state.specs.Work.{IsCovered}
+use Rattle.edge_state.proofs.Filters.{without_off}
+use Rattle.edge_state.proofs.Worked.{covered_no_instance}
 use Rattle.rule_passes.proofs.CycleRows.{covered_fourth}
 use Rattle.rule_passes.proofs.RowStates.{not_true}
 use Rattle.rule_passes.proofs.candidates.cycle_fourths.Goals as goal

@@ -5,7 +5,7 @@ use Rattle.packing_terms.specs.declared.Rel.TheVariants.{Overlap}
 use Rattle.packing_terms.specs.Exclusions.{excludes}
 use Rattle.edge_state.specs.BitRows.{row_has}
 use Rattle.edge_state.proofs.Kept.{row_open, row_shut}
-use Rattle.closure_terms.proofs.Filters.{minus_off, without_off}
+use Rattle.edge_state.proofs.Filters.{minus_off, without_off}
 use Rattle.rule_passes.proofs.RowStates.{not_true}
 use Rattle.rule_passes.proofs.candidates.cycle_thirds.Goals as goal
 

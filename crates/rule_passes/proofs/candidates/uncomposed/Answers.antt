@@ -7,7 +7,7 @@ use Rattle.packing_terms.specs.Exclusions.{excludes}
 use Rattle.relation_table.specs.Masks.{mask_has}
 use Rattle.edge_state.specs.BitRows.{row_has}
 use Rattle.edge_state.specs.Edges.{is_other_box}
-use Rattle.closure_terms.specs.Rows.{in_each_relation}
+use Rattle.edge_state.specs.Rows.{in_each_relation}
 use Rattle.rule_passes.specs.Reached.{composed}
 use Rattle.rule_passes.proofs.RowRules.{compose_follows, compose_shut, compose_kept}
 use Rattle.rule_passes.proofs.RowStates.{not_true}

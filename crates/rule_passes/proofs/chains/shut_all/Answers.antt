@@ -1,7 +1,7 @@
 use Rattle.std.proofs.Common.{◌<◌, ◌∙◌, ℕ, refl, ap, arith, rules, true}
 use Rattle.packing_terms.specs.Packing.{box_count}
-use Rattle.closure_terms.specs.Passes.{IsChainChecked}
-use Rattle.closure_terms.proofs.Passes.{pass_start, pass_next, sizes_passed, heads_more, tails_more, shut_kept}
+use Rattle.edge_state.specs.Passes.{IsChainChecked}
+use Rattle.edge_state.proofs.Passes.{pass_start, pass_next, sizes_passed, heads_more, tails_more, shut_kept}
 use Rattle.orientation_rules.specs.CachedChainWeights.{PlainLevels}
 use Rattle.rule_passes.proofs.Levels.{pass_lost}
 use Rattle.rule_passes.proofs.chains.shut_all.Goals as goal

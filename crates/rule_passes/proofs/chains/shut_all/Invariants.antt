@@ -1,6 +1,6 @@
 use Rattle.std.proofs.Common.{◌≡◌, ◌<◌, ℕ}
 use Rattle.packing_terms.specs.Packing.{box_count}
-use Rattle.closure_terms.specs.Passes.{IsPass, IsChainChecked}
+use Rattle.edge_state.specs.Passes.{IsPass, IsChainChecked}
 use Rattle.rule_passes.proofs.chains.shut_all.Given as goal
 
 abbrev pub invariant-loop-u : goal.invariant-loop-u

@@ -1,8 +1,8 @@
 use Rattle.std.proofs.Common.{◌<◌, ℕ, arith, rules}
 use Rattle.packing_terms.specs.Packing.{box_count}
 use Rattle.edge_state.specs.BitRows.{row_has}
-use Rattle.closure_terms.specs.Passes.{IsChainChecked}
-use Rattle.closure_terms.proofs.Passes.{pass_none}
+use Rattle.edge_state.specs.Passes.{IsChainChecked}
+use Rattle.edge_state.proofs.Passes.{pass_none}
 use Rattle.rule_passes.proofs.ChainRows.{shut_off, member, chain_row, empty_row}
 use Rattle.rule_passes.proofs.chains.shut_from.Goals as goal
 

@@ -1,11 +1,11 @@
 use Rattle.std.proofs.Common.{arith, rules, ◌≤◌, ◌-◌, ◌*◌, ◌/◌, ◌∙◌, ap, length}
-use Rattle.rule_terms.proofs.Applied.{extends_trans}
+use Rattle.packing_terms.proofs.Applied.{extends_trans}
 use Rattle.edge_state.specs.Edges.{PlainEdges}
 use Rattle.edge_state.specs.BitRows.{row_has}
 use Rattle.edge_state.proofs.RowBits.{members_few}
-use Rattle.closure_terms.proofs.Worked.{worked_kept}
-use Rattle.closure_terms.proofs.Settled.{trail_short, settled_transitive, stable_settled, up_to_date}
-use Rattle.closure_terms.proofs.Looked.{looked_after, less_to_do, marked}
+use Rattle.edge_state.proofs.Worked.{worked_kept}
+use Rattle.edge_state.proofs.Settled.{trail_short, settled_transitive, stable_settled, up_to_date}
+use Rattle.edge_state.proofs.Looked.{looked_after, less_to_do, marked}
 use Rattle.rule_passes.proofs.Levels.{each_set}
 use Rattle.orientation_rules.specs.CachedChainWeights.{PlainLevels}
 use Rattle.rule_passes.proofs.closing.run_to_fixpoint.Goals as goal

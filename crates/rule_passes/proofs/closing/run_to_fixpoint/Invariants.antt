@@ -1,8 +1,8 @@
 use Rattle.std.proofs.Common.{ℕ, ◌≡◌, ◌+◌, ◌-◌, ◌*◌, ◌/◌, length}
-use Rattle.rule_terms.specs.Applied.{Extends}
+use Rattle.packing_terms.specs.Applied.{Extends}
 use Rattle.edge_state.specs.BitRows.{row_has, members_below}
 use Rattle.packing_terms.specs.Packing.{dims, box_count}
-use Rattle.closure_terms.specs.Work.{IsWorklistDone}
+use Rattle.edge_state.specs.Work.{IsWorklistDone}
 use Rattle.rule_passes.specs.Rooms.{AreKept, AreMade}
 use Rattle.rule_passes.proofs.closing.run_to_fixpoint.Given as goal
 

@@ -1,7 +1,7 @@
 use Rattle.std.proofs.Common.{arith}
 use Rattle.packing_terms.specs.declared.Rel.TheVariants.{Overlap, Before, After}
 use Rattle.packing_terms.proofs.Monotone.{follows_more}
-use Rattle.closure_terms.proofs.Worked.{worked_kept, worked_lost, worked_lost_first, sizes_worked}
+use Rattle.edge_state.proofs.Worked.{worked_kept, worked_lost, worked_lost_first, sizes_worked}
 use Rattle.rule_passes.specs.Reached.{NoRule}
 use Rattle.rule_passes.proofs.RowRules.{none_then}
 use Rattle.rule_passes.proofs.composing.exclude_three.Goals as goal

@@ -4,16 +4,16 @@ use Rattle.packing_terms.specs.declared.Rel.TheVariants.{Overlap, Before, After}
 use Rattle.packing_terms.specs.Relations.{mirror}
 use Rattle.packing_terms.specs.Packing.{box_count}
 use Rattle.packing_terms.specs.Exclusions.{excludes, IsEdge}
-use Rattle.rule_terms.specs.Places.{HasNoEmptyMask}
+use Rattle.packing_terms.specs.Places.{HasNoEmptyMask}
 use Rattle.packing_terms.specs.Rules.{Rule, Compose, Concludes, IsRuleInstance}
 use Rattle.packing_terms.proofs.Monotone.{follows_more}
 use Rattle.relation_table.specs.Masks.{mask_has}
 use Rattle.edge_state.specs.BitRows.{row_has}
 use Rattle.edge_state.proofs.Tables.{excludes_mirror}
-use Rattle.closure_terms.specs.Instances.{Composes}
-use Rattle.closure_terms.specs.Rows.{in_each_relation}
-use Rattle.closure_terms.specs.Work.{IsCovered}
-use Rattle.closure_terms.proofs.Worked.{worked_kept, worked_lost_first, sizes_worked, covered_if}
+use Rattle.edge_state.specs.Instances.{Composes}
+use Rattle.edge_state.specs.Rows.{in_each_relation}
+use Rattle.edge_state.specs.Work.{IsCovered}
+use Rattle.edge_state.proofs.Worked.{worked_kept, worked_lost_first, sizes_worked, covered_if}
 use Rattle.rule_passes.specs.Reached.{NoRule}
 use Rattle.rule_passes.proofs.RowRules.{worked_from, named_shut, none_then, composed_covered}
 use Rattle.rule_passes.proofs.composing.spread_composed.Goals as goal

@@ -8,10 +8,10 @@ use Rattle.packing_terms.specs.Rules.{Cycle, IsRuleInstance, Premises, Follows}
 use Rattle.edge_state.specs.BitRows.{row_has}
 use Rattle.edge_state.specs.Edges.{is_other_box}
 use Rattle.edge_state.proofs.RowSteps.{box_apart}
-use Rattle.rule_terms.specs.Applied.{added}
-use Rattle.closure_terms.proofs.Filters.{covered_never}
-use Rattle.closure_terms.proofs.Members.{covered_named}
-use Rattle.closure_terms.proofs.Worked.{worked_none}
+use Rattle.packing_terms.specs.Applied.{added}
+use Rattle.edge_state.proofs.Filters.{covered_never}
+use Rattle.edge_state.proofs.Members.{covered_named}
+use Rattle.edge_state.proofs.Worked.{worked_none}
 use Rattle.rule_passes.proofs.CycleRows.{joined_back, unless}
 use Rattle.rule_passes.proofs.RowRules.{worked_from, covered_shut, named_shut, shut_joined, cycle_follows, before_no_overlap, after_no_overlap}
 use Rattle.rule_passes.proofs.RowStates.{other_there}

@@ -3,7 +3,7 @@ use Rattle.std.proofs.lemmas.Bool.{and_parts, true≢false}
 use Rattle.packing_terms.specs.Exclusions.{excludes, IsJoined}
 use Rattle.edge_state.specs.BitRows.{row_has}
 use Rattle.edge_state.proofs.RowBits.{members_fewer}
-use Rattle.closure_terms.proofs.Filters.{without_off}
+use Rattle.edge_state.proofs.Filters.{without_off}
 use Rattle.rule_passes.proofs.cycles.has_open_pair.Goals as goal
 
 pub loop-b-smaller : goal.loop-b-smaller

@@ -5,9 +5,9 @@ use Rattle.packing_terms.specs.Packing.{box_count}
 use Rattle.packing_terms.specs.Exclusions.{excludes, IsJoined}
 use Rattle.packing_terms.specs.Rules.{Rule, Cycle, IsRuleInstance, Premises}
 use Rattle.edge_state.specs.BitRows.{row_has}
-use Rattle.closure_terms.specs.Instances.{Chords}
-use Rattle.closure_terms.specs.Work.{IsCovered}
-use Rattle.closure_terms.proofs.Worked.{worked_none}
+use Rattle.edge_state.specs.Instances.{Chords}
+use Rattle.edge_state.specs.Work.{IsCovered}
+use Rattle.edge_state.proofs.Worked.{worked_none}
 use Rattle.rule_passes.proofs.CycleRows.{joined_back, unless}
 use Rattle.rule_passes.proofs.RowRules.{covered_shut, named_shut, shut_joined}
 use Rattle.rule_passes.proofs.cycles.may_chord.Goals as goal

@@ -1,10 +1,10 @@
 use Rattle.std.proofs.Common.{◌⊎◌}
 use Rattle.packing_terms.specs.Exclusions.{excludes}
 use Rattle.packing_terms.specs.Rules.{Rule}
-use Rattle.rule_terms.specs.Places.{HasNoEmptyMask}
+use Rattle.packing_terms.specs.Places.{HasNoEmptyMask}
 use Rattle.relation_table.specs.Masks.{mask_has}
-use Rattle.closure_terms.specs.Instances.{Composes}
-use Rattle.closure_terms.proofs.Worked.{worked_then, worked_kept, worked_lost_first}
+use Rattle.edge_state.specs.Instances.{Composes}
+use Rattle.edge_state.proofs.Worked.{worked_then, worked_kept, worked_lost_first}
 use Rattle.rule_passes.specs.Reached.{IsReachedLater}
 use Rattle.rule_passes.proofs.Quiet.{worked_pieces}
 use Rattle.rule_passes.proofs.dispatch.apply_all_rules.Goals as goal

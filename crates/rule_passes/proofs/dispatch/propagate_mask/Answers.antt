@@ -2,10 +2,10 @@ use Rattle.std.proofs.Common.{◌≡◌, ◌⊎◌, false}
 use Rattle.packing_terms.specs.declared.Rel.TheVariants.{Overlap}
 use Rattle.packing_terms.specs.Exclusions.{excludes}
 use Rattle.packing_terms.specs.Rules.{Rule}
-use Rattle.rule_terms.specs.Places.{HasNoEmptyMask}
+use Rattle.packing_terms.specs.Places.{HasNoEmptyMask}
 use Rattle.relation_table.specs.Masks.{mask_has}
-use Rattle.closure_terms.specs.Instances.{Composes, Triples}
-use Rattle.closure_terms.proofs.Worked.{worked_then}
+use Rattle.edge_state.specs.Instances.{Composes, Triples}
+use Rattle.edge_state.proofs.Worked.{worked_then}
 use Rattle.rule_passes.specs.Reached.{IsReachedChorded, IsReachedLater}
 use Rattle.rule_passes.proofs.Quiet.{worked_pieces}
 use Rattle.rule_passes.proofs.dispatch.propagate_mask.Goals as goal

@@ -1,7 +1,7 @@
 use Rattle.packing_terms.specs.declared.Rel.TheVariants.{Before, After}
 use Rattle.packing_terms.specs.Rules.{Rule}
 use Rattle.relation_table.specs.Masks.{mask_has}
-use Rattle.closure_terms.proofs.Worked.{worked_then, worked_kept, worked_lost_first}
+use Rattle.edge_state.proofs.Worked.{worked_then, worked_kept, worked_lost_first}
 use Rattle.rule_passes.specs.Reached.{IsReachedRest}
 use Rattle.rule_passes.proofs.dispatch.spread_both.Goals as goal
 

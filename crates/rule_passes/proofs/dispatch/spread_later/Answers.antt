@@ -2,8 +2,8 @@ use Rattle.std.proofs.Common.{◌≡◌, ◌⊎◌, false}
 use Rattle.packing_terms.specs.declared.Rel.TheVariants.{Overlap}
 use Rattle.packing_terms.specs.Rules.{Rule}
 use Rattle.relation_table.specs.Masks.{mask_has}
-use Rattle.closure_terms.specs.Instances.{Triples}
-use Rattle.closure_terms.proofs.Worked.{worked_then, worked_kept, worked_lost_first}
+use Rattle.edge_state.specs.Instances.{Triples}
+use Rattle.edge_state.proofs.Worked.{worked_then, worked_kept, worked_lost_first}
 use Rattle.rule_passes.specs.Reached.{IsReachedChorded}
 use Rattle.rule_passes.proofs.dispatch.spread_later.Goals as goal
 

@@ -1,4 +1,4 @@
-use Rattle.closure_terms.proofs.Worked.{worked_as}
+use Rattle.edge_state.proofs.Worked.{worked_as}
 use Rattle.rule_passes.proofs.edges.apply_apart_if_joined.Goals as goal
 
 pub returns : goal.returns

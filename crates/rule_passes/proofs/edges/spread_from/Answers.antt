@@ -2,8 +2,8 @@ use Rattle.std.proofs.Common.{◌≡◌, ◌⊎◌, false}
 use Rattle.packing_terms.specs.declared.Rel.TheVariants.{Overlap, Before, After}
 use Rattle.packing_terms.specs.Rules.{Rule}
 use Rattle.relation_table.specs.Masks.{mask_has}
-use Rattle.closure_terms.specs.Instances.{Cycles, OrdersCrossed}
-use Rattle.closure_terms.proofs.Worked.{worked_then, worked_lost, worked_lost_first, worked_kept}
+use Rattle.edge_state.specs.Instances.{Cycles, OrdersCrossed}
+use Rattle.edge_state.proofs.Worked.{worked_then, worked_lost, worked_lost_first, worked_kept}
 use Rattle.rule_passes.specs.Reached.{IsReachedOrdered}
 use Rattle.rule_passes.proofs.edges.spread_from.Goals as goal
 

@@ -2,8 +2,8 @@ use Rattle.std.proofs.Common.{arith, ◌≡◌, ◌⊎◌, false}
 use Rattle.packing_terms.specs.declared.Rel.TheVariants.{Overlap, After}
 use Rattle.packing_terms.specs.Rules.{Rule}
 use Rattle.relation_table.specs.Masks.{mask_has}
-use Rattle.closure_terms.proofs.Worked.{worked_as, worked_then, worked_kept, sizes_worked}
-use Rattle.closure_terms.specs.Instances.{OrdersFirst, OrdersSecond}
+use Rattle.edge_state.proofs.Worked.{worked_as, worked_then, worked_kept, sizes_worked}
+use Rattle.edge_state.specs.Instances.{OrdersFirst, OrdersSecond}
 use Rattle.rule_passes.proofs.edges.spread_ordered.Goals as goal
 
 pub orders_second-requires : goal.orders_second-requires

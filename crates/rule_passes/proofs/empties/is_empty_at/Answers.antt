@@ -1,6 +1,6 @@
 use Rattle.std.proofs.Common.{arith, ◌<◌}
 use Rattle.packing_terms.specs.Exclusions.{excludes, IsEdge}
-use Rattle.closure_terms.proofs.Ends.{empty_or_left}
+use Rattle.edge_state.proofs.Ends.{empty_or_left}
 use Rattle.rule_passes.proofs.empties.is_empty_at.Goals as goal
 
 pub returns-then-u-v : goal.returns-then-u-v

@@ -7,8 +7,8 @@ use Rattle.packing_terms.proofs.Monotone.{follows_more}
 use Rattle.edge_state.specs.BitRows.{row_has}
 use Rattle.edge_state.proofs.RowBits.{members_fewer}
 use Rattle.edge_state.proofs.RowSteps.{box_apart}
-use Rattle.closure_terms.proofs.Filters.{without_off}
-use Rattle.closure_terms.proofs.Worked.{worked_none, worked_lost, worked_kept, sizes_worked}
+use Rattle.edge_state.proofs.Filters.{without_off}
+use Rattle.edge_state.proofs.Worked.{worked_none, worked_lost, worked_kept, sizes_worked}
 use Rattle.rule_passes.specs.Reached.{NoRule}
 use Rattle.rule_passes.proofs.RowRules.{none_then}
 use Rattle.rule_passes.proofs.excluding.exclude_between.Goals as goal

@@ -1,5 +1,5 @@
 use Rattle.std.proofs.Common.{arith}
-use Rattle.closure_terms.proofs.Worked.{worked_kept, worked_lost_first, sizes_worked}
+use Rattle.edge_state.proofs.Worked.{worked_kept, worked_lost_first, sizes_worked}
 use Rattle.packing_terms.proofs.Monotone.{follows_more}
 use Rattle.rule_passes.specs.Reached.{NoRule}
 use Rattle.rule_passes.proofs.RowRules.{none_then}

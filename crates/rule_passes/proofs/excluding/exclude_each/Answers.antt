@@ -2,7 +2,7 @@ use Rattle.std.proofs.Common.{sym, ◌∙◌, arith}
 use Rattle.std.proofs.lemmas.Bool.{and_parts}
 use Rattle.packing_terms.specs.Packing.{box_count}
 use Rattle.edge_state.specs.BitRows.{row_has}
-use Rattle.closure_terms.proofs.Worked.{worked_none}
+use Rattle.edge_state.proofs.Worked.{worked_none}
 use Rattle.rule_passes.proofs.RowStates.{row_worked, row_all_shut, row_none_left}
 use Rattle.rule_passes.proofs.excluding.exclude_each.Goals as goal
 

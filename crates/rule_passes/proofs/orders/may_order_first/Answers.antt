@@ -1,8 +1,8 @@
 use Rattle.packing_terms.specs.Packing.{box_count}
 use Rattle.packing_terms.specs.Rules.{Order}
 use Rattle.edge_state.specs.BitRows.{row_has}
-use Rattle.closure_terms.proofs.Filters.{covered_never}
-use Rattle.closure_terms.proofs.Members.{none_worked}
+use Rattle.edge_state.proofs.Filters.{covered_never}
+use Rattle.edge_state.proofs.Members.{none_worked}
 use Rattle.rule_passes.proofs.orders.may_order_first.Goals as goal
 
 pub returns : goal.returns

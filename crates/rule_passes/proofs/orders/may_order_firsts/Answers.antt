@@ -5,8 +5,8 @@ use Rattle.packing_terms.specs.Exclusions.{excludes}
 use Rattle.packing_terms.specs.Rules.{Order}
 use Rattle.edge_state.specs.BitRows.{row_has}
 use Rattle.edge_state.proofs.RowBits.{members_fewer}
-use Rattle.closure_terms.specs.Work.{IsCovered}
-use Rattle.closure_terms.proofs.Members.{member_next}
+use Rattle.edge_state.specs.Work.{IsCovered}
+use Rattle.edge_state.proofs.Members.{member_next}
 use Rattle.rule_passes.proofs.orders.may_order_firsts.Goals as goal
 
 pub loop-a-init : goal.loop-a-init

@@ -3,7 +3,7 @@ use Rattle.packing_terms.specs.Packing.{box_count}
 use Rattle.packing_terms.specs.Exclusions.{excludes}
 use Rattle.packing_terms.specs.Rules.{Order}
 use Rattle.edge_state.specs.BitRows.{row_has, members_below}
-use Rattle.closure_terms.specs.Work.{IsCovered}
+use Rattle.edge_state.specs.Work.{IsCovered}
 use Rattle.rule_passes.proofs.orders.may_order_firsts.Given as goal
 
 abbrev pub invariant-loop-a : goal.invariant-loop-a

@@ -4,8 +4,8 @@ use Rattle.packing_terms.specs.Rules.{Order}
 use Rattle.packing_terms.proofs.Sets.{excludes_symmetric}
 use Rattle.packing_terms.specs.declared.Rel.TheVariants.{Before}
 use Rattle.edge_state.specs.BitRows.{row_has}
-use Rattle.closure_terms.proofs.Filters.{covered_never}
-use Rattle.closure_terms.proofs.Members.{none_worked}
+use Rattle.edge_state.proofs.Filters.{covered_never}
+use Rattle.edge_state.proofs.Members.{none_worked}
 use Rattle.rule_passes.proofs.orders.may_order_second.Goals as goal
 
 pub returns : goal.returns

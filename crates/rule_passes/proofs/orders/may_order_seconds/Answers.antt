@@ -5,11 +5,11 @@ use Rattle.packing_terms.specs.Exclusions.{excludes}
 use Rattle.packing_terms.specs.Rules.{Order}
 use Rattle.edge_state.specs.BitRows.{row_has}
 use Rattle.edge_state.proofs.RowBits.{members_fewer}
-use Rattle.closure_terms.specs.Work.{IsCovered}
+use Rattle.edge_state.specs.Work.{IsCovered}
 use Rattle.packing_terms.proofs.Sets.{excludes_symmetric}
 use Rattle.packing_terms.specs.declared.Rel.TheVariants.{Overlap, After}
-use Rattle.closure_terms.proofs.Filters.{covered_never}
-use Rattle.closure_terms.proofs.Members.{member_next}
+use Rattle.edge_state.proofs.Filters.{covered_never}
+use Rattle.edge_state.proofs.Members.{member_next}
 use Rattle.rule_passes.proofs.orders.may_order_seconds.Goals as goal
 
 pub returns-then-is_empty : goal.returns-then-is_empty

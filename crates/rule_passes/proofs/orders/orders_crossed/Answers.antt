@@ -8,9 +8,9 @@ use Rattle.packing_terms.proofs.Sets.{excludes_symmetric}
 use Rattle.edge_state.specs.BitRows.{row_has}
 use Rattle.edge_state.proofs.Kept.{open_is}
 use Rattle.edge_state.proofs.RowBits.{eqb_false}
-use Rattle.closure_terms.proofs.Filters.{covered_never}
-use Rattle.closure_terms.proofs.Members.{covered_named}
-use Rattle.closure_terms.proofs.Worked.{worked_none}
+use Rattle.edge_state.proofs.Filters.{covered_never}
+use Rattle.edge_state.proofs.Members.{covered_named}
+use Rattle.edge_state.proofs.Worked.{worked_none}
 use Rattle.rule_passes.proofs.CycleRows.{unless}
 use Rattle.rule_passes.proofs.Guards.{shut_off}
 use Rattle.rule_passes.proofs.RowRules.{worked_from, covered_shut, named_shut, shut_before, order_follows_back}

@@ -10,9 +10,9 @@ use Rattle.edge_state.specs.BitRows.{row_has}
 use Rattle.edge_state.specs.Edges.{is_other_box}
 use Rattle.edge_state.proofs.RowBits.{eqb_false}
 use Rattle.edge_state.proofs.RowSteps.{box_apart}
-use Rattle.closure_terms.proofs.Filters.{covered_never}
-use Rattle.closure_terms.proofs.Members.{covered_named}
-use Rattle.closure_terms.proofs.Worked.{worked_none}
+use Rattle.edge_state.proofs.Filters.{covered_never}
+use Rattle.edge_state.proofs.Members.{covered_named}
+use Rattle.edge_state.proofs.Worked.{worked_none}
 use Rattle.rule_passes.proofs.CycleRows.{unless}
 use Rattle.rule_passes.proofs.RowRules.{worked_from, covered_shut, named_shut, shut_before, order_follows}
 use Rattle.rule_passes.proofs.RowStates.{not_true}

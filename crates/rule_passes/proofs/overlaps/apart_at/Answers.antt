@@ -5,9 +5,9 @@ use Rattle.packing_terms.specs.Exclusions.{excludes}
 use Rattle.packing_terms.specs.Packing.{box_count}
 use Rattle.packing_terms.specs.Rules.{Apart}
 use Rattle.edge_state.proofs.Kept.{row_shut}
-use Rattle.closure_terms.proofs.Filters.{covered_by, covered_never}
-use Rattle.closure_terms.proofs.Members.{covered_named}
-use Rattle.closure_terms.proofs.Worked.{worked_as, worked_none}
+use Rattle.edge_state.proofs.Filters.{covered_by, covered_never}
+use Rattle.edge_state.proofs.Members.{covered_named}
+use Rattle.edge_state.proofs.Worked.{worked_as, worked_none}
 use Rattle.rule_passes.proofs.overlaps.apart_at.Goals as goal
 
 pub returns-then-not-has : goal.returns-then-not-has

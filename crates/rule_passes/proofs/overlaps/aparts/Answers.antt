@@ -1,6 +1,6 @@
 use Rattle.std.proofs.Common.{◌≡◌, ◌≢◌}
 use Rattle.packing_terms.specs.Rules.{Apart}
-use Rattle.closure_terms.proofs.Worked.{worked_start, worked_next, worked_lost, worked_kept, sizes_worked}
+use Rattle.edge_state.proofs.Worked.{worked_start, worked_next, worked_lost, worked_kept, sizes_worked}
 use Rattle.rule_passes.proofs.overlaps.aparts.Goals as goal
 
 pub loop-i-init : goal.loop-i-init

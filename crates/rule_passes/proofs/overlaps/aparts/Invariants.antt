@@ -1,6 +1,6 @@
 use Rattle.std.proofs.Common.{◌≡◌, ◌≢◌, ◌<◌, ℕ, false}
 use Rattle.packing_terms.specs.Rules.{Apart}
-use Rattle.closure_terms.specs.Work.{HasApplied}
+use Rattle.edge_state.specs.Work.{HasApplied}
 use Rattle.rule_passes.proofs.overlaps.aparts.Given as goal
 
 abbrev pub invariant-loop-i : goal.invariant-loop-i

@@ -1,7 +1,7 @@
 use Rattle.std.proofs.Common.{◌≡◌, ◌≢◌, ◌<◌, ◌⊎◌, inl, ℕ}
 use Rattle.packing_terms.specs.Packing.{dims}
 use Rattle.packing_terms.specs.Rules.{Rule, Pair, Apart}
-use Rattle.closure_terms.proofs.Worked.{worked_applied, worked_as, worked_then, sizes_worked}
+use Rattle.edge_state.proofs.Worked.{worked_applied, worked_as, worked_then, sizes_worked}
 use Rattle.rule_passes.proofs.pairs.pair_at.Goals as goal
 
 pub aparts-requires-clause-sizes : goal.aparts-requires-clause-sizes

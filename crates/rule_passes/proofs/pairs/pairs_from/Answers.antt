@@ -1,6 +1,6 @@
 use Rattle.std.proofs.Common.{◌≡◌, ◌<◌, ◌+◌, ℕ, arith}
 use Rattle.packing_terms.specs.Rules.{Rule, Pair}
-use Rattle.closure_terms.proofs.Worked.{worked_none, worked_as, worked_next, worked_lost, worked_kept, sizes_worked}
+use Rattle.edge_state.proofs.Worked.{worked_none, worked_as, worked_next, worked_lost, worked_kept, sizes_worked}
 use Rattle.rule_passes.proofs.pairs.pairs_from.Goals as goal
 
 pub loop-v-init : goal.loop-v-init

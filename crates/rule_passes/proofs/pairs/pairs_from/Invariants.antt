@@ -1,6 +1,6 @@
 use Rattle.std.proofs.Common.{◌≡◌, ◌<◌, ℕ, false}
 use Rattle.packing_terms.specs.Rules.{Pair}
-use Rattle.closure_terms.specs.Work.{HasApplied}
+use Rattle.edge_state.specs.Work.{HasApplied}
 use Rattle.rule_passes.proofs.pairs.pairs_from.Given as goal
 
 abbrev pub invariant-loop-v : goal.invariant-loop-v

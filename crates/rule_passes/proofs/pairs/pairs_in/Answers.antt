@@ -1,7 +1,7 @@
 use Rattle.std.proofs.Common.{◌≡◌, ◌<◌, ℕ}
 use Rattle.packing_terms.specs.Packing.{box_count}
 use Rattle.packing_terms.specs.Rules.{Pair}
-use Rattle.closure_terms.proofs.Worked.{worked_start, worked_next, worked_lost, worked_kept, sizes_worked}
+use Rattle.edge_state.proofs.Worked.{worked_start, worked_next, worked_lost, worked_kept, sizes_worked}
 use Rattle.rule_passes.proofs.pairs.pairs_in.Goals as goal
 
 pub loop-u-init : goal.loop-u-init

@@ -1,7 +1,7 @@
 use Rattle.std.proofs.Common.{◌≡◌, ◌<◌, ◌∙◌, ℕ, arith}
 use Rattle.packing_terms.specs.Packing.{box_count}
 use Rattle.packing_terms.specs.Rules.{Pair}
-use Rattle.closure_terms.proofs.Worked.{worked_start, worked_next, worked_lost, worked_kept}
+use Rattle.edge_state.proofs.Worked.{worked_start, worked_next, worked_lost, worked_kept}
 use Rattle.rule_passes.proofs.pairs.pass_pairs.Goals as goal
 
 pub loop-dim-init : goal.loop-dim-init

@@ -1,7 +1,7 @@
 use Rattle.std.proofs.Common.{◌≡◌, ◌<◌, ℕ, false}
 use Rattle.packing_terms.specs.Packing.{box_count}
 use Rattle.packing_terms.specs.Rules.{Pair}
-use Rattle.closure_terms.specs.Work.{HasApplied}
+use Rattle.edge_state.specs.Work.{HasApplied}
 use Rattle.rule_passes.proofs.pairs.pass_pairs.Given as goal
 
 abbrev pub invariant-loop-dim : goal.invariant-loop-dim

@@ -6,7 +6,7 @@ use Rattle.packing_terms.specs.declared.Rel.{Rel}
 use Rattle.packing_terms.specs.Exclusions.{excludes, IsEdge}
 use Rattle.packing_terms.specs.Rules.{Compose}
 use Rattle.relation_table.specs.Masks.{mask_has}
-use Rattle.closure_terms.proofs.Worked.{covered_if}
+use Rattle.edge_state.proofs.Worked.{covered_if}
 use Rattle.edge_state.specs.BitRows.{row_has}
 use Rattle.edge_state.proofs.Tables.{excludes_mirror}
 use Rattle.rule_passes.proofs.Guards.{none_composed}

@@ -2,8 +2,8 @@ use Rattle.packing_terms.specs.declared.Rel.TheVariants.{Before, After}
 use Rattle.std.proofs.Common.{◌≡◌, ◌⊎◌, false}
 use Rattle.packing_terms.specs.Rules.{Rule}
 use Rattle.relation_table.specs.Masks.{mask_has}
-use Rattle.closure_terms.specs.Instances.{Cycles}
-use Rattle.closure_terms.proofs.Worked.{worked_as, worked_then}
+use Rattle.edge_state.specs.Instances.{Cycles}
+use Rattle.edge_state.proofs.Worked.{worked_as, worked_then}
 use Rattle.rule_passes.proofs.prechecks.may_spread_joined.Goals as goal
 
 pub returns : goal.returns

@@ -2,8 +2,8 @@ use Rattle.std.proofs.Common.{◌≡◌, ◌⊎◌, false}
 use Rattle.packing_terms.specs.declared.Rel.TheVariants.{Overlap, After}
 use Rattle.packing_terms.specs.Rules.{Rule}
 use Rattle.relation_table.specs.Masks.{mask_has}
-use Rattle.closure_terms.proofs.Worked.{worked_as, worked_then}
-use Rattle.closure_terms.specs.Instances.{OrdersFirst, OrdersSecond}
+use Rattle.edge_state.proofs.Worked.{worked_as, worked_then}
+use Rattle.edge_state.specs.Instances.{OrdersFirst, OrdersSecond}
 use Rattle.rule_passes.proofs.prechecks.may_spread_ordered.Goals as goal
 
 pub returns : goal.returns

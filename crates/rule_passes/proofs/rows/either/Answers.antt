@@ -1,6 +1,6 @@
 use Rattle.packing_terms.specs.Packing.{box_count}
 use Rattle.packing_terms.specs.Exclusions.{excludes}
-use Rattle.closure_terms.proofs.Filters.{either_within, either_shut, either_some}
+use Rattle.edge_state.proofs.Filters.{either_within, either_shut, either_some}
 use Rattle.rule_passes.proofs.RowStates.{either_other}
 use Rattle.rule_passes.proofs.rows.either.Goals as goal
 

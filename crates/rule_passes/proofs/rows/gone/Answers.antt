@@ -2,7 +2,7 @@ use Rattle.std.proofs.Common.{◌≡◌, ◌⊎◌, inl, inr, sym, ◌∙◌, fa
 use Rattle.std.proofs.lemmas.Bool.{and_parts, lt-ltb, eq-eqb, true≢false}
 use Rattle.packing_terms.specs.Packing.{box_count}
 use Rattle.edge_state.specs.BitRows.{row_has}
-use Rattle.closure_terms.proofs.Filters.{gone_within, gone_other, without_off}
+use Rattle.edge_state.proofs.Filters.{gone_within, gone_other, without_off}
 use Rattle.rule_passes.proofs.RowStates.{not_true}
 use Rattle.rule_passes.proofs.rows.gone.Goals as goal
 

@@ -4,7 +4,7 @@ use Rattle.packing_terms.specs.Packing.{box_count}
 use Rattle.packing_terms.specs.Exclusions.{excludes}
 use Rattle.edge_state.specs.BitRows.{row_has}
 use Rattle.edge_state.proofs.RowBits.{members_fewer}
-use Rattle.closure_terms.proofs.Filters.{without_off}
+use Rattle.edge_state.proofs.Filters.{without_off}
 use Rattle.rule_passes.specs.Reached.{IsGoneOf}
 use Rattle.rule_passes.proofs.rows.gone_of_any.Goals as goal
 

@@ -3,7 +3,7 @@ use Rattle.std.proofs.lemmas.Bool.{and_parts, or_parts, or_cases, eqb-true, eq-e
 use Rattle.packing_terms.specs.Packing.{side}
 use Rattle.edge_state.specs.BitRows.{row_has}
 use Rattle.edge_state.proofs.RowBits.{members_fewer}
-use Rattle.closure_terms.proofs.Filters.{without_off}
+use Rattle.edge_state.proofs.Filters.{without_off}
 use Rattle.rule_passes.proofs.triples.long_among.Goals as goal
 
 pub loop-v-init : goal.loop-v-init

@@ -7,11 +7,11 @@ use Rattle.packing_terms.specs.Rules.{Rule, Triple}
 use Rattle.packing_terms.proofs.Sets.{excludes_symmetric}
 use Rattle.edge_state.specs.BitRows.{row_has}
 use Rattle.edge_state.proofs.Kept.{open_is}
-use Rattle.closure_terms.specs.Instances.{Triples}
-use Rattle.closure_terms.specs.Work.{IsCovered}
-use Rattle.closure_terms.proofs.Filters.{covered_never}
-use Rattle.closure_terms.proofs.Members.{covered_named}
-use Rattle.closure_terms.proofs.Worked.{worked_none, worked_kept, worked_then, worked_lost_first, sizes_worked}
+use Rattle.edge_state.specs.Instances.{Triples}
+use Rattle.edge_state.specs.Work.{IsCovered}
+use Rattle.edge_state.proofs.Filters.{covered_never}
+use Rattle.edge_state.proofs.Members.{covered_named}
+use Rattle.edge_state.proofs.Worked.{worked_none, worked_kept, worked_then, worked_lost_first, sizes_worked}
 use Rattle.rule_passes.proofs.Guards.{Among, worked_rows, shut_off}
 use Rattle.rule_passes.proofs.triples.triples.Goals as goal
 

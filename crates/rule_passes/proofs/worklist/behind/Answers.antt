@@ -1,4 +1,4 @@
-use Rattle.closure_terms.specs.Work.{behind_two}
+use Rattle.edge_state.specs.Work.{behind_two}
 use Rattle.rule_passes.proofs.Stale.{taken_fresh, still_fresh}
 use Rattle.rule_passes.proofs.worklist.behind.Goals as goal
 

@@ -1,9 +1,9 @@
 use Rattle.std.proofs.Common.{◌≤◌, ◌<◌, ◌-◌, ◌*◌, ◌/◌, ◌∙◌, refl, arith, length}
 use Rattle.packing_terms.specs.Exclusions.{IsEdge}
-use Rattle.rule_terms.proofs.Applied.{extends_refl, extends_trans}
-use Rattle.closure_terms.proofs.Worked.{worked_kept}
-use Rattle.closure_terms.proofs.Settled.{change_edge, trail_short, behind_within, grown_past, settled_all, chained_all}
-use Rattle.closure_terms.proofs.Looked.{looked_step}
+use Rattle.packing_terms.proofs.Applied.{extends_refl, extends_trans}
+use Rattle.edge_state.proofs.Worked.{worked_kept}
+use Rattle.edge_state.proofs.Settled.{change_edge, trail_short, behind_within, grown_past, settled_all, chained_all}
+use Rattle.edge_state.proofs.Looked.{looked_step}
 use Rattle.rule_passes.proofs.worklist.drain_worklist.Goals as goal
 
 pub loop-change-init : goal.loop-change-init

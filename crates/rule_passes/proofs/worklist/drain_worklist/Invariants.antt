@@ -1,7 +1,7 @@
 use Rattle.std.proofs.Common.{◌≡◌, ◌≤◌, ◌-◌, ◌*◌, ◌/◌, length}
-use Rattle.rule_terms.specs.Applied.{Extends}
+use Rattle.packing_terms.specs.Applied.{Extends}
 use Rattle.edge_state.specs.Edges.{oldest}
-use Rattle.closure_terms.specs.Work.{IsWorklistDone}
+use Rattle.edge_state.specs.Work.{IsWorklistDone}
 use Rattle.rule_passes.proofs.worklist.drain_worklist.Given as goal
 
 abbrev pub invariant-loop-change : goal.invariant-loop-change

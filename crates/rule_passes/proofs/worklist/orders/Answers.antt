@@ -1,4 +1,4 @@
-use Rattle.closure_terms.proofs.Looked.{unordered}
+use Rattle.edge_state.proofs.Looked.{unordered}
 use Rattle.rule_passes.proofs.worklist.orders.Goals as goal
 
 pub returns : goal.returns

@@ -1,6 +1,6 @@
 use Rattle.std.proofs.Common.{IfSome}
 use Rattle.tree_terms.specs.Levels.{first_heights}
-use Rattle.reduced_levels.specs.Heights.{height_answer_from}
+use Rattle.tree_terms.specs.Heights.{height_answer_from}
 use Rattle.level_search.specs.Runs.{plain_reached}
 use Rattle.level_search.proofs.OnRun.{IsOnRun, decisions_left}
 use Rattle.strip_solver.specs.Deciding.{IsReadyFor}

@@ -1,4 +1,4 @@
-use Rattle.reduced_levels.proofs.Heights.{none_decides}
+use Rattle.tree_terms.proofs.Heights.{none_decides}
 use Rattle.strip_solver.proofs.least.least_height.Goals as goal
 
 pub least_from-requires-after_bounds : goal.least_from-requires-after_bounds

@@ -1,7 +1,7 @@
 use Rattle.std.proofs.Common.{◌∙◌, sym, subst, List}
 use Rattle.packing_terms.specs.declared.Exclusion.{Exclusion}
-use Rattle.reduced_levels.specs.Heights.{DecideHeights}
-use Rattle.reduced_levels.proofs.Heights.{facts_decide}
+use Rattle.tree_terms.specs.Heights.{DecideHeights}
+use Rattle.tree_terms.proofs.Heights.{facts_decide}
 use Rattle.strip_solver.proofs.least.least_height_reduced.Goals as goal
 
 pub least_from-requires-after_bounds : goal.least_from-requires-after_bounds

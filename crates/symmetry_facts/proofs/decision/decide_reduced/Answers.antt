@@ -7,8 +7,8 @@ use Rattle.tree_terms.specs.Trees.{outcome, under_budget}
 use Rattle.work_share.specs.Outcomes.{plain_outcome}
 use Rattle.class_search.specs.Tree.{PlainClassTree, shape}
 use Rattle.class_search.proofs.Rights.{class_told}
-use Rattle.symmetry_terms.specs.Facts.{symmetry_facts}
-use Rattle.symmetry_terms.proofs.Members.{facts_at_edges}
+use Rattle.packing_terms.specs.Facts.{symmetry_facts}
+use Rattle.packing_terms.proofs.SymmetryMembers.{facts_at_edges}
 use Rattle.symmetry_facts.proofs.Reduced.{reduced_right, reduced_decides}
 use Rattle.symmetry_facts.proofs.decision.decide_reduced.Goals as goal
 

@@ -5,7 +5,7 @@ use Rattle.packing_terms.proofs.Boxes.{box_in, each_from}
 use Rattle.packing_terms.proofs.Ranges.{flat_map_last_below}
 use Rattle.packing_terms.specs.Rank.{ranked}
 use Rattle.packing_terms.proofs.RankLemmas.{ranked_are_boxes}
-use Rattle.symmetry_terms.specs.Facts.{twin_facts}
+use Rattle.packing_terms.specs.Facts.{twin_facts}
 use Rattle.symmetry_list.proofs.listing.facts.Goals as goal
 
 pub loop-u-preserved : goal.loop-u-preserved

@@ -1,5 +1,5 @@
 use Rattle.tree_terms.proofs.laws.class_tree_decides.Goals as goal
-use Rattle.scale_terms.proofs.Excess.{excess_law}
+use Rattle.packing_terms.proofs.Excess.{excess_law}
 use Rattle.tree_terms.proofs.Decisions.{decides}
 
 pub returns : goal.returns

@@ -1,5 +1,5 @@
 use Rattle.tree_terms.proofs.laws.closures_are_stable.Goals as goal
-use Rattle.rule_terms.proofs.RoundsLemmas.{closure_stable}
+use Rattle.packing_terms.proofs.RoundsLemmas.{closure_stable}
 use Rattle.tree_terms.proofs.Closed.{follows_derived}
 
 pub returns-clause-stable : goal.returns-clause-stable

@@ -1,5 +1,5 @@
 use Rattle.tree_terms.proofs.laws.outer_trees_decide.Goals as goal
-use Rattle.scale_terms.proofs.Excess.{excess_law}
+use Rattle.packing_terms.proofs.Excess.{excess_law}
 use Rattle.tree_terms.proofs.OuterDecisions.{decides_bins, decides_value}
 
 pub returns-clause-bins : goal.returns-clause-bins

@@ -1,4 +1,4 @@
-use Rattle.scale_terms.proofs.Excess.{excess_law}
+use Rattle.packing_terms.proofs.Excess.{excess_law}
 use Rattle.tree_terms.proofs.FirstFound.{first_large_is, first_too_wide_is, none_large_is, none_too_wide_is}
 use Rattle.tree_terms.proofs.SpentRuns.{height_exactly, no_height_exactly, bins_exactly, no_bins_exactly}
 use Rattle.tree_terms.proofs.level_laws.optima_are_there_exactly.Goals as goal

@@ -1,5 +1,5 @@
 use Rattle.tree_terms.proofs.level_laws.runs_find_the_optimum.Goals as goal
-use Rattle.scale_terms.proofs.Excess.{excess_law}
+use Rattle.packing_terms.proofs.Excess.{excess_law}
 use Rattle.tree_terms.proofs.Optima.{height_optimum, bins_optimum, value_optimum}
 
 pub returns-clause-height : goal.returns-clause-height

@@ -1,6 +1,6 @@
 use Rattle.std.proofs.Common.{arith, ◌≡◌, ◌+◌, ◌-◌, ◌++◌, ◌∷◌, [], ◌∙◌, ap, ap₂, length}
 use Rattle.std.proofs.lemmas.List.{length_push}
-use Rattle.board_terms.specs.Board.{TaskEntry, Waits, children_from, PlainTask}
+use Rattle.work_share.specs.Board.{TaskEntry, Waits, children_from, PlainTask}
 use Rattle.work_share.specs.declared.slot.Slot.{Slot}
 use Rattle.work_share.specs.declared.slot.SlotState.TheVariants as stored
 use Rattle.work_share.specs.Slots.{entries_from}

@@ -1,5 +1,5 @@
 use Rattle.std.proofs.Common.{◌≡◌, ◌+◌, ◌-◌, ◌++◌, length}
-use Rattle.board_terms.specs.Board.{children_from}
+use Rattle.work_share.specs.Board.{children_from}
 use Rattle.work_share.specs.Slots.{entries_from}
 use Rattle.work_share.specs.Links.{links_from, links_of}
 use Rattle.work_share.specs.Boards.{waiting_tasks}

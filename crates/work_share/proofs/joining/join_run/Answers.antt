@@ -1,9 +1,9 @@
 use Rattle.std.proofs.Common.{rules, arith, ◌≡◌, ◌<◌, ◌+◌, ◌∙◌, sym, ap, subst, length, take, drop, get_or, vec_len}
 use Rattle.std.proofs.Common.{true, ℕ, List, Bool}
-use Rattle.board_terms.specs.Board.{PlainEntry}
+use Rattle.work_share.specs.Board.{PlainEntry}
 use Rattle.std.proofs.lemmas.List.{length-map}
 use Rattle.tree_terms.specs.Trees.{No, Decided, under_budget, join}
-use Rattle.board_terms.specs.Runs.{run_of, with_entry}
+use Rattle.work_share.specs.Runs.{run_of, with_entry}
 use Rattle.work_share.specs.Slots.{entry_at, entries_of}
 use Rattle.work_share.specs.Links.{order_of}
 use Rattle.work_share.specs.Fronts.{IsFront, Ends, piece_of}

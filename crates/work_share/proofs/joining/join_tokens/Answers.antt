@@ -3,7 +3,7 @@ use Rattle.std.proofs.Common.{vec_len, Some}
 use Rattle.std.specs.Prelude.{slice_get}
 use Rattle.std.proofs.lemmas.List.{length-set}
 use Rattle.std.proofs.lemmas.Option.{slice_get_within, get_or_from_slice_get}
-use Rattle.board_terms.specs.Kept.{AreBelow}
+use Rattle.work_share.specs.Kept.{AreBelow}
 use Rattle.work_share.specs.Slots.{entries_of}
 use Rattle.work_share.specs.Links.{next_of, order_of}
 use Rattle.work_share.specs.Joining.{entry_tokens}

@@ -1,5 +1,5 @@
 use Rattle.std.proofs.Common.{◌≡◌, drop}
-use Rattle.board_terms.specs.Kept.{leads_left}
+use Rattle.work_share.specs.Kept.{leads_left}
 use Rattle.work_share.proofs.stack.leads_left.Given as goal
 
 abbrev pub invariant-loop-k : goal.invariant-loop-k

@@ -1,6 +1,6 @@
 use Rattle.std.proofs.Common.{◌∙◌, ◌++◌, ◌∷◌, [], List, ap, length, map}
 use Rattle.std.proofs.lemmas.List.Elements.{All-push}
-use Rattle.explained_terms.specs.Steps.{PlainStep}
+use Rattle.verdict_terms.specs.Steps.{PlainStep}
 use Rattle.line_proofs.specs.Plain.{plain_step}
 use Rattle.line_proofs.specs.ShortSteps.{shown_step, shown_steps, IsWithin}
 use Rattle.line_proofs.proofs.ShortSteps.{steps_short}

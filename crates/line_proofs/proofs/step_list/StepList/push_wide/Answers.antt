@@ -1,6 +1,6 @@
 use Rattle.std.proofs.Common.{◌≡◌, ◌∙◌, ◌++◌, ◌∷◌, [], List, ap, ap₂, sym, length, map}
 use Rattle.std.proofs.lemmas.List.{length-map, map-append}
-use Rattle.explained_terms.specs.Steps.{PlainStep}
+use Rattle.verdict_terms.specs.Steps.{PlainStep}
 use Rattle.line_proofs.specs.declared.step.Step.{Step}
 use Rattle.line_proofs.specs.Plain.{plain_step}
 use Rattle.line_proofs.specs.ShortSteps.{shown_steps}

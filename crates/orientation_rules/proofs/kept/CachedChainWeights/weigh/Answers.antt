@@ -2,8 +2,8 @@ use Rattle.std.proofs.Common.{◌≡◌, ◌∙◌, ℕ, List, length, arith, ap
 use Rattle.std.proofs.lemmas.List.{with_items_is}
 use Rattle.packing_terms.specs.Packing.{box_count, side}
 use Rattle.packing_terms.specs.Exclusions.{excludes}
-use Rattle.rule_terms.specs.declared.Direction.TheVariants.{Forwards, Backwards}
-use Rattle.rule_terms.specs.Runs.{Leads}
+use Rattle.packing_terms.specs.declared.Direction.TheVariants.{Forwards, Backwards}
+use Rattle.packing_terms.specs.Runs.{Leads}
 use Rattle.orientation_rules.proofs.KeptRuns.{kept_from, kept_same, runs_alone}
 use Rattle.orientation_rules.proofs.kept.CachedChainWeights.weigh.Goals as goal
 

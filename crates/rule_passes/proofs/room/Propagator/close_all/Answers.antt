@@ -1,7 +1,7 @@
 use Rattle.std.proofs.Common.{refl, arith}
 use Rattle.packing_terms.specs.Rules.{Pair}
-use Rattle.rule_terms.proofs.Applied.{extends_trans}
-use Rattle.closure_terms.proofs.Settled.{pairs_both, settled_pairs, chained_pairs}
+use Rattle.packing_terms.proofs.Applied.{extends_trans}
+use Rattle.edge_state.proofs.Settled.{pairs_both, settled_pairs, chained_pairs}
 use Rattle.rule_passes.proofs.room.Propagator.close_all.Goals as goal
 
 pub close_from-requires-clause-settled : goal.close_from-requires-clause-settled

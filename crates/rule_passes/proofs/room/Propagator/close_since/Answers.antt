@@ -1,4 +1,4 @@
-use Rattle.closure_terms.proofs.Settled.{settled_since, chained_since}
+use Rattle.edge_state.proofs.Settled.{settled_since, chained_since}
 use Rattle.rule_passes.proofs.room.Propagator.close_since.Goals as goal
 
 pub close_from-requires-clause-settled : goal.close_from-requires-clause-settled

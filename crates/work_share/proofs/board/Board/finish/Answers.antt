@@ -1,10 +1,10 @@
 use Rattle.std.proofs.Common.{rules, arith, ◌≡◌, ◌++◌, ◌∷◌, [], ◌∙◌, sym, ap, ap₂, subst, length, vec_len, vec_capacity}
 use Rattle.std.proofs.Common.{Some, IfSome}
 use Rattle.tree_terms.specs.Paths.{outcome_at}
-use Rattle.board_terms.specs.declared.Event.TheVariants as event
-use Rattle.board_terms.specs.Board.{out_path}
-use Rattle.board_terms.specs.Steps.{Finishes}
-use Rattle.board_terms.specs.Kept.{AreBelow, IsOutcomeOf}
+use Rattle.work_share.specs.declared.Event.TheVariants as event
+use Rattle.work_share.specs.Board.{out_path}
+use Rattle.work_share.specs.Steps.{Finishes}
+use Rattle.work_share.specs.Kept.{AreBelow, IsOutcomeOf}
 use Rattle.work_share.specs.Outcomes.{plain_outcome}
 use Rattle.work_share.specs.declared.slot.SlotState.TheVariants as stored
 use Rattle.work_share.specs.Tasks.{is_past}

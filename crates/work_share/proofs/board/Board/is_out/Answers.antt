@@ -2,7 +2,7 @@ use Rattle.std.proofs.Common.{arith, ◌≡◌, ◌≤◌, subst, length, vec_ca
 use Rattle.std.specs.Prelude.{slice_get}
 use Rattle.std.proofs.lemmas.Option.{slice_get_read}
 use Rattle.std.proofs.lemmas.Bool.Decides.{when_true}
-use Rattle.board_terms.specs.Board.{TaskEntry, Out}
+use Rattle.work_share.specs.Board.{TaskEntry, Out}
 use Rattle.work_share.specs.Slots.{entry_of, entries_of}
 use Rattle.work_share.specs.Links.{order_of}
 use Rattle.work_share.proofs.Finishing.{out_reached}

@@ -2,8 +2,8 @@ use Rattle.std.proofs.Common.{◌≡◌, ◌∙◌, sym, subst, length, true, fa
 use Rattle.std.proofs.lemmas.Bool.{eqb-true}
 use Rattle.std.proofs.lemmas.List.{length-map}
 use Rattle.std.proofs.lemmas.Result.{IfOk-weaker}
-use Rattle.board_terms.specs.Runs.{is_board_over}
-use Rattle.board_terms.proofs.RunRight.{joins_right}
+use Rattle.work_share.specs.Runs.{is_board_over}
+use Rattle.work_share.proofs.RunRight.{joins_right}
 use Rattle.work_share.specs.Slots.{entry_at, entries_of}
 use Rattle.work_share.specs.Boards.{PlainBoard, stored_state}
 use Rattle.work_share.specs.Links.{order_of}

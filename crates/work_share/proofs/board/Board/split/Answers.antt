@@ -2,8 +2,8 @@ use Rattle.std.proofs.Common.{rules, arith, ◌≡◌, ◌≤◌, ◌+◌, ◌*�
 use Rattle.std.proofs.Common.{reverse, take, drop, vec_len, vec_capacity, Some, IfSome}
 use Rattle.tree_terms.specs.Trees.{node_at}
 use Rattle.tree_terms.specs.Paths.{Splits, node_view}
-use Rattle.board_terms.specs.declared.Event.TheVariants as event
-use Rattle.board_terms.specs.Board.{out_path, children_from}
+use Rattle.work_share.specs.declared.Event.TheVariants as event
+use Rattle.work_share.specs.Board.{out_path, children_from}
 use Rattle.proof_tree.specs.Plain.{plain_token}
 use Rattle.work_share.specs.declared.slot.SlotState.TheVariants as stored
 use Rattle.work_share.specs.Slots.{entries_from, with_slot}

@@ -1,8 +1,8 @@
 use Rattle.std.proofs.Common.{rules, arith, ◌≡◌, ◌++◌, ◌∷◌, [], ◌∙◌, sym, ap, subst, length, reverse, vec_len}
 use Rattle.std.proofs.Common.{vec_capacity, Some, refl}
 use Rattle.std.proofs.lemmas.List.{reverse-reverse, nil_from_length}
-use Rattle.board_terms.specs.declared.Event.TheVariants as event
-use Rattle.board_terms.specs.Board.{out_path}
+use Rattle.work_share.specs.declared.Event.TheVariants as event
+use Rattle.work_share.specs.Board.{out_path}
 use Rattle.work_share.specs.declared.slot.SlotState.TheVariants.{Out}
 use Rattle.work_share.specs.Slots.{entries_of, with_slot}
 use Rattle.work_share.specs.Boards.{stored_state, waiting_tasks}

@@ -1,5 +1,5 @@
 use Rattle.std.proofs.Common.{arith, ◌≡◌, ◌≤◌, ◌++◌, ◌∷◌, [], ◌∙◌, ap, refl, None, vec_capacity}
-use Rattle.board_terms.specs.Board.{PlainTask}
+use Rattle.work_share.specs.Board.{PlainTask}
 use Rattle.work_share.specs.declared.slot.Slot.{Slot}
 use Rattle.work_share.specs.declared.slot.SlotState.TheVariants.{Waits}
 use Rattle.work_share.proofs.Starting.{start_kept, start_linked}

@@ -1,9 +1,0 @@
-use Rattle.board_terms.specs.Board.{board_start}
-use Rattle.board_terms.proofs.Calls.{step_happens, steps_replay}
-use Rattle.board_terms.proofs.laws.steps_are_replayed.Goals as goal
-
-pub returns-clause-step : goal.returns-clause-step
-returns-clause-step c = step_happens
-
-pub returns-clause-steps : goal.returns-clause-steps
-returns-clause-steps c tree budget calls board s = steps_replay tree budget calls board_start board s

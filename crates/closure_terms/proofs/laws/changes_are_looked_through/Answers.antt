@@ -1,9 +1,0 @@
-use Rattle.closure_terms.proofs.Reached.{settled_next}
-use Rattle.closure_terms.proofs.Chained.{chained_next}
-use Rattle.closure_terms.proofs.laws.changes_are_looked_through.Goals as goal
-
-pub returns-clause-settled : goal.returns-clause-settled
-returns-clause-settled c = settled_next
-
-pub returns-clause-chained : goal.returns-clause-chained
-returns-clause-chained c = chained_next

@@ -1,3 +1,0 @@
-pub mod TokensBack
-pub mod TokensPlain
-pub mod Cuts

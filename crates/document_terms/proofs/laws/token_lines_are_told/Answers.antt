@@ -1,5 +1,0 @@
-use Rattle.document_terms.proofs.Cuts.{token_lines_are_told}
-use Rattle.document_terms.proofs.laws.token_lines_are_told.Goals as goal
-
-pub returns : goal.returns
-returns c = token_lines_are_told

@@ -1,4 +1,0 @@
-pub mod Stages
-pub mod Documents
-pub mod Kinds
-pub mod Form

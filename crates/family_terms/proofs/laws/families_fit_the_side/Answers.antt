@@ -1,6 +1,0 @@
-use Rattle.family_terms.proofs.Aside.{family_fits}
-use Rattle.family_terms.proofs.laws.families_fit_the_side.Goals as goal
-
-pub returns : goal.returns
-returns c instance places es i vs sides packing respects family =
-    family_fits instance places es i sides packing respects vs family

@@ -1,5 +1,0 @@
-use Rattle.family_terms.proofs.FamilyTrees.{families_in_trees}
-use Rattle.family_terms.proofs.laws.families_in_trees_are_refutations.Goals as goal
-
-pub returns : goal.returns
-returns c = families_in_trees

@@ -1,6 +1,0 @@
-pub mod Families
-pub mod FamilyRefutation
-pub mod FamilyFeeding
-pub mod FamilyJudging
-pub mod FamilyChecking
-pub mod FamilyLines

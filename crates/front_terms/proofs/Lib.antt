@@ -1,4 +1,0 @@
-pub mod Sizes
-pub mod Stairs
-pub mod Judged
-pub mod Good

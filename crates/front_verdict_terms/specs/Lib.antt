@@ -1,5 +1,0 @@
-pub mod Verdicts
-pub mod Fed
-pub mod Points
-pub mod Form
-pub mod Laws

@@ -1,6 +1,0 @@
-use Rattle.rule_terms.proofs.AppliedSound.{applied_sound}
-use Rattle.rule_terms.proofs.laws.applied_rules_are_sound.Goals as goal
-
-pub returns : goal.returns
-returns c instance rule old new changed applied places sides packing respects =
-    applied_sound instance places rule old new changed sides packing applied respects

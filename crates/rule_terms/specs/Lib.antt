@@ -1,6 +1,0 @@
-pub mod Rounds
-pub mod Steps
-pub mod Applied
-pub mod Runs
-pub mod Places
-pub mod SetChains

@@ -1,8 +1,0 @@
-use Rattle.scale_terms.proofs.Packings.{weighted_any, weighted_images}
-use Rattle.scale_terms.proofs.laws.weighted_intervals.Goals as goal
-
-pub returns-clause-any : goal.returns-clause-any
-returns-clause-any c = weighted_any
-
-pub returns-clause-scales : goal.returns-clause-scales
-returns-clause-scales c = weighted_images
