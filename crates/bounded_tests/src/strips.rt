@@ -35,15 +35,15 @@ fn came(strip: &BoundedStrip) -> Wanted {
 
 // A width, a number of boxes, a budget, whether there are scale functions and proposals, and what
 // comes. Of four boards no two stand side by side in a width of 10. The rule TRIPLE refutes height 4
-// at the root and the class tree height 7; with no branching a family does. Of twenty boards, and of
-// four in a width of 12, the first height that is tried stays open, and no family is found.
+// at the root and the class tree height 7; with no branching a family does. Two boards stand side by
+// side in a width of 12; at height 3 no two lie one above the other, so all four stand side by side.
 const RUNS: [(u32, u32, u64, bool, bool, Wanted); 7] = [
     (10, 4, 0, false, false, Some((7, 8, true))),
     (10, 4, 0, true, false, Some((7, 8, false))),
     (10, 4, 1_000_000, false, false, Some((7, 8, false))),
     (10, 4, 1_000_000, false, true, Some((7, 8, false))),
-    (10, 20, 0, false, false, Some((0, 40, false))),
-    (12, 4, 0, false, false, Some((0, 8, false))),
+    (10, 20, 0, false, false, Some((39, 40, true))),
+    (12, 4, 0, false, false, Some((3, 8, true))),
     (5, 4, 0, false, false, None),
 ];
 
