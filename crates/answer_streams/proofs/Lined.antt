@@ -13,7 +13,7 @@ use Rattle.verdict_terms.specs.Reasons.{reason_words}
 use Rattle.verdict_terms.specs.Documents.{verdict_line, reduced_verdict_line, bounded_verdict_line}
 use Rattle.verdict_terms.specs.FrontDocumentVerdicts.{front_verdict_line}
 use Rattle.verdict_terms.specs.declared.explained_reason.ExplainedReason.{ExplainedReason}
-use Rattle.verdict_terms.specs.ExplainedDocumentDocuments.{explained_line, reason_words as explained_words_of}
+use Rattle.verdict_terms.specs.ExplainedDocuments.{explained_line, reason_words as explained_words_of}
 use Rattle.answer_streams.specs.Audited.{explained_end, verified_front}
 use Rattle.answer_streams.specs.Lines.{number_line, claim_text, reason_end}
 

@@ -14,11 +14,11 @@ use Rattle.verdict_terms.specs.declared.kind.DocumentKind.TheVariants.{Explained
 use Rattle.verdict_terms.specs.declared.kind.DocumentKind.TheVariants.{Reduced as OfReduced, Bounded as OfBounded}
 use Rattle.verdict_terms.specs.declared.explained_reason.ExplainedReason.{ExplainedReason}
 use Rattle.verdict_terms.specs.Kinds.{document_kind}
-use Rattle.verdict_terms.specs.ExplainedDocumentDocuments.{ExplainedRefusal, explained_verdict, explained_line, explained_status}
-use Rattle.verdict_terms.specs.ExplainedDocumentDocuments.{code_word, reason_words, IsShown}
+use Rattle.verdict_terms.specs.ExplainedDocuments.{ExplainedRefusal, explained_verdict, explained_line, explained_status}
+use Rattle.verdict_terms.specs.ExplainedDocuments.{code_word, reason_words, IsShown}
 use Rattle.verdict_terms.specs.FrontDocumentVerdicts.{FrontRead, front_document_verdict, front_verdict_line}
 use Rattle.verdict_terms.specs.FrontDocumentVerdicts.{front_verdict_status}
-use Rattle.verdict_terms.specs.ExplainedDocumentForm.{IsExplainedDocument}
+use Rattle.verdict_terms.specs.ExplainedForm.{IsExplainedDocument}
 use Rattle.verdict_terms.specs.Points.{points_of_text}
 use Rattle.verdict_terms.specs.FrontDocumentForm.{IsFrontDocument}
 use Rattle.verdict_terms.specs.FrontDocumentLaws.{IsTrueFrontOf}

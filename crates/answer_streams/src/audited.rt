@@ -1,7 +1,7 @@
 //! The verdict on a document that was audited, and its one line.
 ghost use Rattle.std.specs.Prelude.{◌≡◌};
 ghost use Rattle.pack_streams.specs.Writing.{Continues, Writes};
-ghost use Rattle.verdict_terms.specs.ExplainedDocumentDocuments.{explained_line};
+ghost use Rattle.verdict_terms.specs.ExplainedDocuments.{explained_line};
 ghost use Rattle.answer_streams.specs.Audited.{explained_text, verdict_text, audit_code_end, explained_end, told_status};
 
 use crate::audited_fronts::{FrontAudited, write_front_verdict};

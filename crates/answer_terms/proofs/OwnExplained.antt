@@ -22,13 +22,13 @@ use Rattle.verdict_terms.specs.ExplainedJudging.{AuditNode, at_rest}
 use Rattle.verdict_terms.specs.Auditing.{audited_after, audited_after_all}
 use Rattle.verdict_terms.proofs.ExplainedFed.{explained_fed}
 use Rattle.verdict_terms.proofs.StepsBack.{steps_are_read_back}
-use Rattle.verdict_terms.specs.ExplainedDocumentStages.{ExplainedStage, Heading, Reading, Explaining, Ending, Ended, form, begun}
-use Rattle.verdict_terms.specs.ExplainedDocumentStages.{grown, tree_step, text_fault, end_of_parts, reading_line}
-use Rattle.verdict_terms.specs.ExplainedDocumentStages.{require, are_two, coded, stage_after}
+use Rattle.verdict_terms.specs.ExplainedStages.{ExplainedStage, Heading, Reading, Explaining, Ending, Ended, form, begun}
+use Rattle.verdict_terms.specs.ExplainedStages.{grown, tree_step, text_fault, end_of_parts, reading_line}
+use Rattle.verdict_terms.specs.ExplainedStages.{require, are_two, coded, stage_after}
 use Rattle.verdict_terms.specs.declared.kind.DocumentKind.{DocumentKind}
 use Rattle.verdict_terms.specs.declared.kind.DocumentKind.TheVariants.{Explained as ExplainedKind}
 use Rattle.verdict_terms.specs.Kinds.{kind_of_line, kind_of_lines}
-use Rattle.verdict_terms.specs.ExplainedDocumentDocuments.{at_line, read_lines, explained_verdict}
+use Rattle.verdict_terms.specs.ExplainedDocuments.{at_line, read_lines, explained_verdict}
 use Rattle.verdict_terms.proofs.InstanceLines.{no_result, at_line_ok}
 use Rattle.answer_terms.specs.Answers.{Lines}
 use Rattle.answer_terms.specs.Explained.{step_lines, explained_lines, explained_text}

@@ -20,7 +20,7 @@ use Rattle.verdict_terms.specs.Steps.{PlainStep}
 use Rattle.verdict_terms.specs.Explaining.{Explains}
 use Rattle.verdict_terms.specs.declared.kind.DocumentKind.TheVariants.{Explained, Reduced as ReducedKind}
 use Rattle.verdict_terms.specs.Kinds.{document_kind}
-use Rattle.verdict_terms.specs.ExplainedDocumentDocuments.{explained_verdict}
+use Rattle.verdict_terms.specs.ExplainedDocuments.{explained_verdict}
 use Rattle.text_terms.specs.Claims.{job_of}
 use Rattle.text_terms.specs.declared.claim.SolvingJob.TheVariants.{Fit}
 

@@ -7,8 +7,8 @@ use Rattle.verdict_terms.specs.Stages.{is_blank}
 use Rattle.verdict_terms.specs.declared.explained_reason.ExplainedReason.{ExplainedReason}
 use Rattle.verdict_terms.specs.declared.kind.DocumentKind.{DocumentKind}
 use Rattle.verdict_terms.specs.Kinds.{document_kind, kind_of_line, kind_told}
-use Rattle.verdict_terms.specs.ExplainedDocumentStages.{ExplainedStage, Heading, Ending, Ended, filled_line}
-use Rattle.verdict_terms.specs.ExplainedDocumentDocuments.{ExplainedRefusal, at_line, explained_verdict, told_verdict}
+use Rattle.verdict_terms.specs.ExplainedStages.{ExplainedStage, Heading, Ending, Ended, filled_line}
+use Rattle.verdict_terms.specs.ExplainedDocuments.{ExplainedRefusal, at_line, explained_verdict, told_verdict}
 use Rattle.verdict_terms.proofs.Told.{documents_are_fed, kinds_are_told}
 use Rattle.verdict_terms.proofs.Shown.{documents_are_true}
 use Rattle.explained_check.specs.declared.audit.ExplainedAudit.{ExplainedAudit}

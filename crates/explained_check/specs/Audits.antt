@@ -5,9 +5,9 @@ use Rattle.packing_terms.specs.Results.{◌>>=◌}
 use Rattle.text_terms.specs.Feeding.{ended_line}
 use Rattle.verdict_terms.specs.declared.kind.DocumentKind.TheVariants.{Reduced}
 use Rattle.verdict_terms.specs.Kinds.{kind_of_line, kind_told}
-use Rattle.verdict_terms.specs.ExplainedDocumentStages.{ExplainedStage, filled_line}
-use Rattle.verdict_terms.specs.ExplainedDocumentDocuments.{ExplainedRefusal, at_line, at_end, explained_verdict, told_verdict}
-use Rattle.verdict_terms.specs.ExplainedDocumentDocuments.{IsShown}
+use Rattle.verdict_terms.specs.ExplainedStages.{ExplainedStage, filled_line}
+use Rattle.verdict_terms.specs.ExplainedDocuments.{ExplainedRefusal, at_line, at_end, explained_verdict, told_verdict}
+use Rattle.verdict_terms.specs.ExplainedDocuments.{IsShown}
 use Rattle.explained_check.specs.declared.audit.ExplainedAudit.{ExplainedAudit}
 use Rattle.explained_check.specs.declared.audit.ExplainedAudit.TheVariants.{Verified, Refused, NoMemory}
 use Rattle.instance_text.specs.declared.cursor.Cursor.{Cursor}

@@ -2,7 +2,7 @@
 use Rattle.std.specs.Prelude.{◌≡◌, Result, Ok, Err}
 use Rattle.text_terms.specs.Lines.{Line}
 use Rattle.text_terms.specs.Texts.{Parts, add_line}
-use Rattle.verdict_terms.specs.ExplainedDocumentStages.{text_fault}
+use Rattle.verdict_terms.specs.ExplainedStages.{text_fault}
 use Rattle.explained_check.specs.declared.head.TextStop.{TextStop}
 use Rattle.explained_check.specs.declared.head.TextStop.TheVariants.{Refused, NoMemory}
 

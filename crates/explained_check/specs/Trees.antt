@@ -4,7 +4,7 @@ use Rattle.packing_terms.specs.Packing.{dims}
 use Rattle.text_terms.specs.Lines.{Line}
 use Rattle.line_proofs.specs.Auditors.{PlainAuditor}
 use Rattle.verdict_terms.specs.declared.explained_reason.ExplainedReason.{ExplainedReason}
-use Rattle.verdict_terms.specs.ExplainedDocumentStages.{Explaining, Ending, filled_line}
+use Rattle.verdict_terms.specs.ExplainedStages.{Explaining, Ending, filled_line}
 
 -- no line was refused of a tree over `d` dimensions
 pub record IsGoing (r : PlainAuditor) (d : ℕ) : Type 0 where

@@ -1,8 +1,8 @@
 //! The audit of an explained document that stands in memory.
 ghost use Rattle.std.specs.Prelude.{◌≡◌, ◌+◌, ◌<◌, ◌^◌};
 ghost use Rattle.verdict_terms.specs.declared.explained_reason.ExplainedReason.TheVariants.{TooShort};
-ghost use Rattle.verdict_terms.specs.ExplainedDocumentStages.{Heading};
-ghost use Rattle.verdict_terms.specs.ExplainedDocumentDocuments.{explained_verdict};
+ghost use Rattle.verdict_terms.specs.ExplainedStages.{Heading};
+ghost use Rattle.verdict_terms.specs.ExplainedDocuments.{explained_verdict};
 ghost use Rattle.explained_check.specs.Audits.{IsVerdict, IsTrueAudit, verdict_left};
 ghost use Rattle.instance_text.specs.Lines.{IsAmong};
 

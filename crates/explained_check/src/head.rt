@@ -2,7 +2,7 @@
 ghost use Rattle.std.specs.Prelude.{◌≡◌, IfOk, IfErr, true};
 ghost use Rattle.text_terms.specs.Texts.{no_parts};
 ghost use Rattle.text_terms.specs.Feeding.{ended_line};
-ghost use Rattle.verdict_terms.specs.ExplainedDocumentStages.{Heading, Reading, begun, filled_line, result_line};
+ghost use Rattle.verdict_terms.specs.ExplainedStages.{Heading, Reading, begun, filled_line, result_line};
 ghost use Rattle.instance_text.specs.Lines.{IsAmong};
 ghost use Rattle.explained_check.specs.Audits.{IsVerdict, verdict_left};
 ghost use Rattle.verdict_terms.specs.Trees.{map_ok};

@@ -2,7 +2,7 @@
 ghost use Rattle.std.specs.Prelude.{◌≡◌, ◌≤◌, None};
 ghost use Rattle.packing_terms.specs.Packing.{PlainInstance, dims as dim_count};
 ghost use Rattle.text_terms.specs.Feeding.{ended_line};
-ghost use Rattle.verdict_terms.specs.ExplainedDocumentStages.{Explaining, Ending, Ended, filled_line};
+ghost use Rattle.verdict_terms.specs.ExplainedStages.{Explaining, Ending, Ended, filled_line};
 ghost use Rattle.instance_text.specs.Lines.{IsAmong};
 ghost use Rattle.explained_check.specs.Audits.{IsVerdict, IsStopped, verdict_left};
 ghost use Rattle.verdict_terms.specs.Trees.{map_ok};

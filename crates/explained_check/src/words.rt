@@ -1,6 +1,6 @@
 //! The words of a line.
 ghost use Rattle.std.specs.Prelude.{◌≡◌};
-ghost use Rattle.verdict_terms.specs.ExplainedDocumentStages.{are_two};
+ghost use Rattle.verdict_terms.specs.ExplainedStages.{are_two};
 
 use instance_text::{LineLexer, is_same};
 

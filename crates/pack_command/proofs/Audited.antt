@@ -18,7 +18,7 @@ use Rattle.verdict_terms.specs.declared.kind.DocumentKind.{DocumentKind}
 use Rattle.verdict_terms.specs.declared.kind.DocumentKind.TheVariants.{Explained as OfExplained, Front as OfFront}
 use Rattle.verdict_terms.specs.declared.kind.DocumentKind.TheVariants.{Reduced as OfReduced, Bounded as OfBounded}
 use Rattle.verdict_terms.specs.Kinds.{document_kind}
-use Rattle.verdict_terms.specs.ExplainedDocumentDocuments.{ExplainedRefusal, explained_verdict, explained_line, explained_status}
+use Rattle.verdict_terms.specs.ExplainedDocuments.{ExplainedRefusal, explained_verdict, explained_line, explained_status}
 use Rattle.verdict_terms.proofs.Shown.{documents_are_true as explained_are_true}
 use Rattle.verdict_terms.proofs.ExplainedDocumentFormTold.{documents_have_form as explained_have_form}
 use Rattle.verdict_terms.specs.FrontDocumentVerdicts.{FrontRead, front_document_verdict, front_verdict_line}

@@ -1,7 +1,7 @@
 //! The job `audit`: a document of its kind is verified, or refused at its first faulty line.
 ghost use Rattle.std.specs.Prelude.{◌≡◌, ◌≢◌, ◌≤◌, length, IfOk, IfErr};
 ghost use Rattle.verdict_terms.specs.Documents.{reduced_verdict, bounded_verdict};
-ghost use Rattle.verdict_terms.specs.ExplainedDocumentDocuments.{explained_verdict};
+ghost use Rattle.verdict_terms.specs.ExplainedDocuments.{explained_verdict};
 ghost use Rattle.answer_streams.specs.Verdicts.{plain_verdict};
 ghost use Rattle.verdict_terms.specs.FrontDocumentVerdicts.{front_document_verdict};
 ghost use Rattle.answer_streams.specs.Audited.{IsExplainedAs, IsFrontToldAs, IsToldAs, audit_verdict};

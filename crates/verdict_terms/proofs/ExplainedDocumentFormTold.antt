@@ -23,11 +23,11 @@ use Rattle.verdict_terms.specs.ExplainedJudging.{AuditNode, at_rest}
 use Rattle.verdict_terms.specs.Auditing.{audited_after, audited_after_all}
 use Rattle.verdict_terms.proofs.Explained.{fed_explains}
 use Rattle.verdict_terms.specs.declared.explained_reason.ExplainedReason.{ExplainedReason}
-use Rattle.verdict_terms.specs.ExplainedDocumentStages.{ExplainedStage, Heading, Reading, Explaining, Ending, Ended, form, require}
-use Rattle.verdict_terms.specs.ExplainedDocumentStages.{are_two, text_fault, end_of_parts, begun, reading_line, tree_step, coded}
-use Rattle.verdict_terms.specs.ExplainedDocumentStages.{grown, late_by, filled_line, stage_after}
-use Rattle.verdict_terms.specs.ExplainedDocumentDocuments.{at_line, at_end, read_lines, explained_verdict}
-use Rattle.verdict_terms.specs.ExplainedDocumentForm.{AreStepLines, DocumentsHaveForm}
+use Rattle.verdict_terms.specs.ExplainedStages.{ExplainedStage, Heading, Reading, Explaining, Ending, Ended, form, require}
+use Rattle.verdict_terms.specs.ExplainedStages.{are_two, text_fault, end_of_parts, begun, reading_line, tree_step, coded}
+use Rattle.verdict_terms.specs.ExplainedStages.{grown, late_by, filled_line, stage_after}
+use Rattle.verdict_terms.specs.ExplainedDocuments.{at_line, at_end, read_lines, explained_verdict}
+use Rattle.verdict_terms.specs.ExplainedForm.{AreStepLines, DocumentsHaveForm}
 use Rattle.verdict_terms.proofs.ExplainedDocumentPassed.{ok_is, require_ok, fault_ok, coded_ok, end_ok}
 
 -- ---- words

@@ -4,7 +4,7 @@ use Rattle.packing_terms.specs.Packing.{PlainInstance}
 use Rattle.text_terms.specs.declared.fault.TextFault.{TextFault}
 use Rattle.verdict_terms.specs.declared.explained_answers.AuditCode.{AuditCode}
 use Rattle.verdict_terms.specs.declared.explained_reason.ExplainedReason.{ExplainedReason}
-use Rattle.verdict_terms.specs.ExplainedDocumentStages.{require, text_fault, end_of_parts, coded}
+use Rattle.verdict_terms.specs.ExplainedStages.{require, text_fault, end_of_parts, coded}
 
 pub ok_is : {A E : Type 0} (x y : A) → ◌≡◌ {A = Result A E} (Ok x) (Ok y) → x ≡ y
 ok_is x y e = cc (e)

@@ -8,8 +8,8 @@ use Rattle.verdict_terms.specs.StepLines.{step_of}
 use Rattle.verdict_terms.specs.declared.explained_reason.ExplainedReason.TheVariants.{Text, Line, TooShort}
 use Rattle.verdict_terms.specs.declared.kind.DocumentKind.TheVariants.{Explained, Bounded, Reduced}
 use Rattle.verdict_terms.specs.Kinds.{document_kind}
-use Rattle.verdict_terms.specs.ExplainedDocumentStages.{form, after}
-use Rattle.verdict_terms.specs.ExplainedDocumentDocuments.{explained_verdict, explained_line}
+use Rattle.verdict_terms.specs.ExplainedStages.{form, after}
+use Rattle.verdict_terms.specs.ExplainedDocuments.{explained_verdict, explained_line}
 
 -- two boxes that are too long together in both dimensions
 abbrev square : PlainBox

@@ -11,9 +11,9 @@ use Rattle.verdict_terms.specs.StepLines.{step_of}
 use Rattle.verdict_terms.specs.ExplainedJudging.{AuditNode}
 use Rattle.verdict_terms.specs.Auditing.{audited_after}
 use Rattle.verdict_terms.specs.declared.explained_reason.ExplainedReason.{ExplainedReason}
-use Rattle.verdict_terms.specs.ExplainedDocumentStages.{ExplainedStage, Heading, Reading, Explaining, Ending, Ended, form, require}
-use Rattle.verdict_terms.specs.ExplainedDocumentStages.{are_two, text_fault, end_of_parts, begun, reading_line, tree_step, coded}
-use Rattle.verdict_terms.specs.ExplainedDocumentStages.{grown, late_by, words_line, filled_line, stage_after}
+use Rattle.verdict_terms.specs.ExplainedStages.{ExplainedStage, Heading, Reading, Explaining, Ending, Ended, form, require}
+use Rattle.verdict_terms.specs.ExplainedStages.{are_two, text_fault, end_of_parts, begun, reading_line, tree_step, coded}
+use Rattle.verdict_terms.specs.ExplainedStages.{grown, late_by, words_line, filled_line, stage_after}
 use Rattle.verdict_terms.proofs.ExplainedDocumentPassed.{ok_is, require_ok, fault_ok, end_ok}
 
 abbrev pub IsWell : ExplainedStage → Type 0

@@ -15,11 +15,11 @@ use Rattle.verdict_terms.specs.StepLines.{step_of}
 use Rattle.verdict_terms.specs.Auditing.{audited_after}
 use Rattle.verdict_terms.proofs.StepsBack.{step_lines_are_told}
 use Rattle.verdict_terms.specs.declared.explained_reason.ExplainedReason.{ExplainedReason}
-use Rattle.verdict_terms.specs.ExplainedDocumentStages.{ExplainedStage, Heading, Reading, Explaining, Ending, Ended, form, require}
-use Rattle.verdict_terms.specs.ExplainedDocumentStages.{are_two, text_fault, end_of_parts, begun, reading_line, tree_step, coded}
-use Rattle.verdict_terms.specs.ExplainedDocumentStages.{grown, late_by, words_line, filled_line, stage_after}
-use Rattle.verdict_terms.specs.ExplainedDocumentDocuments.{at_line, read_lines, told_verdict}
-use Rattle.verdict_terms.specs.ExplainedDocumentDocuments.{explained_verdict, DocumentsAreFed}
+use Rattle.verdict_terms.specs.ExplainedStages.{ExplainedStage, Heading, Reading, Explaining, Ending, Ended, form, require}
+use Rattle.verdict_terms.specs.ExplainedStages.{are_two, text_fault, end_of_parts, begun, reading_line, tree_step, coded}
+use Rattle.verdict_terms.specs.ExplainedStages.{grown, late_by, words_line, filled_line, stage_after}
+use Rattle.verdict_terms.specs.ExplainedDocuments.{at_line, read_lines, told_verdict}
+use Rattle.verdict_terms.specs.ExplainedDocuments.{explained_verdict, DocumentsAreFed}
 use Rattle.verdict_terms.specs.declared.kind.DocumentKind.{DocumentKind}
 use Rattle.verdict_terms.specs.declared.kind.DocumentKind.TheVariants.{Explained, Front, Bounded, Reduced}
 use Rattle.verdict_terms.specs.Kinds.{begin_bounded, kind_of_line, kind_of_lines, kind_told}

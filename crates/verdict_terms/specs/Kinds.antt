@@ -9,7 +9,7 @@ use Rattle.verdict_terms.specs.Documents.{reduced_verdict, bounded_verdict}
 use Rattle.verdict_terms.specs.Stages.{is_blank, is_word}
 use Rattle.verdict_terms.specs.declared.kind.DocumentKind.{DocumentKind}
 use Rattle.verdict_terms.specs.declared.kind.DocumentKind.TheVariants.{Explained, Front, Bounded, Reduced}
-use Rattle.verdict_terms.specs.ExplainedDocumentStages.{are_two}
+use Rattle.verdict_terms.specs.ExplainedStages.{are_two}
 
 -- whether these words begin a bounded document
 abbrev pub begin_bounded : List (List ℕ) → Bool

@@ -36,10 +36,10 @@ pub mod FamilyFeeding
 pub mod FamilyJudging
 pub mod FamilyChecking
 pub mod FamilyLines
-pub mod ExplainedDocumentStages
-pub mod ExplainedDocumentDocuments
+pub mod ExplainedStages
+pub mod ExplainedDocuments
 pub mod Kinds
-pub mod ExplainedDocumentForm
+pub mod ExplainedForm
 pub mod FrontDocumentVerdicts
 pub mod FrontDocumentFed
 pub mod Points

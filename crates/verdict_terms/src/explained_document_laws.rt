@@ -1,6 +1,6 @@
 //! What the definitions promise, each the contract of a function with an empty body.
-ghost use Rattle.verdict_terms.specs.ExplainedDocumentDocuments.{DocumentsAreFed, DocumentsAreTrue};
-ghost use Rattle.verdict_terms.specs.ExplainedDocumentForm.{DocumentsHaveForm};
+ghost use Rattle.verdict_terms.specs.ExplainedDocuments.{DocumentsAreFed, DocumentsAreTrue};
+ghost use Rattle.verdict_terms.specs.ExplainedForm.{DocumentsHaveForm};
 ghost use Rattle.verdict_terms.specs.Kinds.{KindsAreTold, ReducedDocumentsAreOfTheirKind, BoundedDocumentsAreOfTheirKind};
 
 /// The bytes of a text, fed from its start to a lexer with each line taken as it ends, give its

@@ -1,6 +1,6 @@
 use Rattle.std.proofs.Common.{length, ◌≡◌}
 use Rattle.text_terms.specs.Texts.{no_parts}
-use Rattle.verdict_terms.specs.ExplainedDocumentStages.{Reading}
+use Rattle.verdict_terms.specs.ExplainedStages.{Reading}
 use Rattle.instance_text.specs.Lines.{IsAmong, lines_left}
 use Rattle.explained_check.specs.Audits.{verdict_left}
 use Rattle.instance_text.specs.Readers.{held_parts, IsHeldHead}

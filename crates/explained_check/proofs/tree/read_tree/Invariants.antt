@@ -1,5 +1,5 @@
 use Rattle.std.proofs.Common.{length, ◌≡◌}
-use Rattle.verdict_terms.specs.ExplainedDocumentStages.{Explaining}
+use Rattle.verdict_terms.specs.ExplainedStages.{Explaining}
 use Rattle.instance_text.specs.Lines.{IsAmong, lines_left}
 use Rattle.explained_check.specs.Audits.{verdict_left}
 use Rattle.explained_check.specs.Trees.{IsGoing}

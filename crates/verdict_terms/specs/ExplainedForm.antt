@@ -6,7 +6,7 @@ use Rattle.text_terms.specs.Form.{AreClean, filled_lines, HasForm}
 use Rattle.verdict_terms.specs.Steps.{PlainStep}
 use Rattle.verdict_terms.specs.StepLines.{step_of}
 use Rattle.verdict_terms.specs.Explaining.{Explains}
-use Rattle.verdict_terms.specs.ExplainedDocumentDocuments.{explained_verdict}
+use Rattle.verdict_terms.specs.ExplainedDocuments.{explained_verdict}
 
 -- the lines are these steps, one each
 abbrev pub AreStepLines : ℕ → List (List (List ℕ)) → List PlainStep → Type 0

@@ -13,7 +13,7 @@ use Rattle.verdict_terms.specs.declared.explained_answers.AuditCode.TheVariants.
 use Rattle.verdict_terms.specs.declared.explained_answers.AuditCode.TheVariants.{Side, After}
 use Rattle.verdict_terms.specs.declared.explained_reason.ExplainedReason.{ExplainedReason}
 use Rattle.verdict_terms.specs.declared.explained_reason.ExplainedReason.TheVariants.{Text, Line, TooShort}
-use Rattle.verdict_terms.specs.ExplainedDocumentStages.{ExplainedStage, Heading, Ended, stage_after}
+use Rattle.verdict_terms.specs.ExplainedStages.{ExplainedStage, Heading, Ended, stage_after}
 
 -- the first refused line, and why
 pub record ExplainedRefusal : Type 0 where
