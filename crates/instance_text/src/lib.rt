@@ -12,7 +12,6 @@ mod word;
 mod words;
 mod writing;
 
-pub use crate::is_same;
 pub use cursor::{Cursor, next_filled};
 pub use lexer::{LexStep, LineLexer};
 pub use reader::{InstanceReader, ReadTextError, read_instance};
