@@ -7,7 +7,6 @@ mod laws;
 mod level;
 mod run;
 
-pub use crate::Level;
 pub use bounds::{Bounds, updated_misses};
 pub use laws::followed_runs_are_runs;
 pub use level::{Level, Reached, level_of};

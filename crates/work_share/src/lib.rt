@@ -16,7 +16,6 @@ mod stack;
 mod task;
 mod tree;
 
-pub use crate::Event;
 pub use board::Board;
 pub use gate::{Gate, NoGate};
 pub use laws::{
