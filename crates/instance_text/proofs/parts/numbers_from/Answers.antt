@@ -2,7 +2,7 @@ use Rattle.std.proofs.Common.{arith, get_or, ℕ, drop, List, ap, ◌∙◌, sym
 use Rattle.std.proofs.lemmas.List.{length-drop}
 use Rattle.text_terms.specs.Texts.{ranged_number}
 use Rattle.text_terms.proofs.Listed.{numbers_more, numbers_fault, numbers_done}
-use Rattle.instance_text.proofs.Words.{next_word}
+use Rattle.instance_text.proofs.WordViews.{next_word}
 use Rattle.instance_text.proofs.parts.numbers_from.Goals as goal
 
 pub returns-in-Err : goal.returns-in-Err
