@@ -25,10 +25,10 @@ const TREE_STEPS_OF_SMALL: u64 = 2_000;
 const TREE_STEPS_OF_MORE: u64 = 960;
 
 // The steps of swaps: as many in any case, and for each branching. With 60 boxes in two dimensions
-// these are 2 batches for a budget of 0, 27 for 10,000 and 96 for 1,000,000. Over 32 strips of 17 to
-// 100 boxes the mean gap to what scales refute is 1.9 % behind the batches of a budget of 0, and
-// 1.6 % behind those of 10,000.
-const SWAP_STEPS: u64 = 3_000_000;
+// these are 1 batch for a budget of 0, 26 for 10,000 and 96 for 1,000,000. Over 32 strips of 17 to
+// 100 boxes the mean gap to what scales refute is 2.4 % after the batches of a budget of 0 (1.9 %
+// with twice the steps, which take up to 0.2 s), and 1.6 % after those of 10,000.
+const SWAP_STEPS: u64 = 1_500_000;
 
 const SWAP_STEPS_OF_SMALL: u64 = 3_500;
 
