@@ -28,7 +28,7 @@ pub shut_off : (instance : PlainInstance) (i n limit : ℕ) (head tail : List �
     → out ≡ row && ltb limit (slice_index head u + slice_index tail v) → out ≡ false
     → IsChainChecked instance i head tail u v es
 shut_off instance i n limit head tail u v es row out hv same is beyond off = record {
-  exclude_if_too_long = λ ne wide. row_shut n i u v (excludes es) Before row hv ne is (not_in wide);
+  excluded = λ ne wide. row_shut n i u v (excludes es) Before row hv ne is (not_in wide);
 }
   where
     not_in : container_side instance i < slice_index head u + slice_index tail v → row ≡ false
@@ -71,7 +71,7 @@ module _ (instance : PlainInstance) (a : PlainEdges) (i limit : ℕ) (head tail 
     extends = subst (λ (es : List Exclusion). Extends instance a.trail es) (sym trail_is)
         (row_extends instance a.trail i u Before out a.boxes (λ v l on. (edge v on, at v on)));
     done = subst (λ (es : List Exclusion). (v : ℕ) → v < box_count instance → IsChainChecked instance i head tail u v es)
-        (sym trail_is) (λ v hv. exclude_if_too_long v hv (cases_Bool (out v)));
+        (sym trail_is) (λ v hv. excluded v hv (cases_Bool (out v)));
   }
     where
       trail_is : b.trail ≡ with_row a.trail i u Before out a.boxes
@@ -84,13 +84,13 @@ module _ (instance : PlainInstance) (a : PlainEdges) (i limit : ℕ) (head tail 
           follows instance (excludes a.trail) i u v (slice_index head u) (slice_index tail v) (edge v on) (heads u hu)
           (tails v (edge v on).second) (omega (arith, far, same))
 
-      exclude_if_too_long : (v : ℕ) → v < box_count instance → (out v ≡ true) ⊎ (out v ≡ false)
+      excluded : (v : ℕ) → v < box_count instance → (out v ≡ true) ⊎ (out v ≡ false)
           → IsChainChecked instance i head tail u v (with_row a.trail i u Before out a.boxes)
-      exclude_if_too_long v hv (inl on) = record {
-        exclude_if_too_long = λ ne wide. row_takes i u Before a.trail out a.boxes i u v Before
+      excluded v hv (inl on) = record {
+        excluded = λ ne wide. row_takes i u Before a.trail out a.boxes i u v Before
             (taken_at v (omega (arith, hv, sizes.same_boxes)) on);
       }
-      exclude_if_too_long v hv (inr off) = shut_kept instance i head tail u v a.trail _ (row_keeps i u Before a.trail out a.boxes)
+      excluded v hv (inr off) = shut_kept instance i head tail u v a.trail _ (row_keeps i u Before a.trail out a.boxes)
           (shut_off instance i a.boxes limit head tail u v a.trail (row v) (out v) (omega (arith, hv, sizes.same_boxes))
           same (is v) (beyond v) off)
 

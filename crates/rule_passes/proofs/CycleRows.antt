@@ -16,10 +16,10 @@ pub covered_fourth : (instance : PlainInstance) (es : List Exclusion) (i a b c d
     → (b ≢ d → free ≡ false → (excludes es i b d Before ≡ true) × (excludes es i b d After ≡ true))
     → (first ≡ true → excludes es i a d Before ≡ true → excludes es i a d After ≡ true → ⊥)
     → IsCovered instance (excludes es) es (Cycle i a b c d)
-covered_fourth instance es i a b c d true first off exclude_if_too_long some =
-    covered_cycle instance es i a b c d true false first off exclude_if_too_long (λ e. absurd (true≢false (sym e))) some
-covered_fourth instance es i a b c d false first off exclude_if_too_long some =
-    covered_cycle instance es i a b c d false false first refl exclude_if_too_long (λ e. absurd (true≢false (sym e))) some
+covered_fourth instance es i a b c d true first off excluded some =
+    covered_cycle instance es i a b c d true false first off excluded (λ e. absurd (true≢false (sym e))) some
+covered_fourth instance es i a b c d false first off excluded some =
+    covered_cycle instance es i a b c d false false first refl excluded (λ e. absurd (true≢false (sym e))) some
 
 pub joined_back : (es : List Exclusion) (i u v : ℕ) → IsJoined (excludes es) i u v → IsJoined (excludes es) i v u
 joined_back es i u v h = (excludes_symmetric es i u v After h.1, excludes_symmetric es i u v Before h.0)

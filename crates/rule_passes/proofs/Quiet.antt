@@ -31,16 +31,16 @@ covered_apart_back : (instance : PlainInstance) (old es : List Exclusion) (i u v
     → IsCovered instance (excludes old) es (Apart i u v) → IsCovered instance (excludes old) es (Apart i v u)
 covered_apart_back instance old es i u v h = record { holds = λ k a b r add. go k a b r add }
   where
-    exclude_if_too_long : IsRuleInstance instance (Apart i v u) → Premises instance (excludes old) (Apart i v u)
+    excluded : IsRuleInstance instance (Apart i v u) → Premises instance (excludes old) (Apart i v u)
         → excludes es i u v Overlap ≡ true
-    exclude_if_too_long is p = h.holds i u v Overlap
+    excluded is p = h.holds i u v Overlap
         (added Overlap (is.0, (is.1.2.0, (λ e. is.1.1.0 (sym e), tt), (is.1.0, tt, tt)))
         (λ j l ne. joined_back old j v u (p j l ne)) refl)
 
     go : (k a b : ℕ) (r : Rel) → Adds instance (excludes old) (Apart i v u) k a b r → excludes es k a b r ≡ true
     go _ _ _ _ (added r is p c) = subst (λ (s : Rel). excludes es i v u s ≡ true) (sym c)
-        (excludes_symmetric es i u v Overlap (exclude_if_too_long is p))
-    go _ _ _ _ (mirror_added r is p c) = subst (λ (s : Rel). excludes es i u v (mirror s) ≡ true) (sym c) (exclude_if_too_long is p)
+        (excludes_symmetric es i u v Overlap (excluded is p))
+    go _ _ _ _ (mirror_added r is p c) = subst (λ (s : Rel). excludes es i u v (mirror s) ≡ true) (sym c) (excluded is p)
 
 named_apart : (instance : PlainInstance) (old es : List Exclusion) (rule : Rule) (i u v : ℕ) → rule ≡ Apart i v u
     → IsCovered instance (excludes old) es (Apart i u v) → IsCovered instance (excludes old) es rule

@@ -1,7 +1,7 @@
 //! Whole rows: the boxes at which a rule may have something to exclude.
 ghost use Rattle.std.specs.Prelude.{◌≡◌, ◌<◌, ◌&&◌, ℕ, true, false, not, nat_lt, IsTrue};
 ghost use Rattle.packing_terms.specs.declared.Rel.{Rel as PlainRel};
-ghost use Rattle.packing_terms.specs.declared.Rel.TheVariants.{Overlap};
+ghost use Rattle.packing_terms.specs.declared.Rel.TheVariants.{Overlap, Before, After};
 ghost use Rattle.packing_terms.specs.Packing.{box_count};
 ghost use Rattle.packing_terms.specs.Exclusions.{excludes, IsApart, IsJoined};
 ghost use Rattle.packing_terms.specs.Rules.{Triple, Compose, Cycle, Order, Follows, Concludes, IsRuleInstance};
@@ -137,7 +137,7 @@ pub(crate) fn uncomposed<const K: usize>(
         → is_other_box (box_count instance.now) u x ≡ true }
     ensures follows { (x : ℕ) → row_has result x ≡ true
         → Follows instance.now (excludes state.now.trail) dim u x rel }
-    ensures exclude_if_too_long { (x : ℕ) → row_has result x ≡ false
+    ensures excluded { (x : ℕ) → row_has result x ≡ false
         → ((q : PlainRel) × (mask_has left q ≡ true))
         → ((s : PlainRel) × (excludes state.now.trail dim v x s ≡ false))
         → IsRuleInstance instance.now (Compose dim u v x)
@@ -207,7 +207,8 @@ pub(crate) fn cycle_fourths<const K: usize>(
     free.minus(first).without(a)
 }
 
-/// The boxes c at which ORDER may exclude something at c, `b`, with the last box given.
+/// The boxes c at which ORDER may exclude something at c, `b`, with the last box given. `free` and
+/// `last` have the boxes that `b` and `d` may overlap or be before.
 #[inline(always)]
 pub(crate) fn beyond_orders_from<const K: usize>(
     instance: &Instance,
@@ -216,21 +217,27 @@ pub(crate) fn beyond_orders_from<const K: usize>(
     a: u32,
     b: u32,
     d: u32,
+    free: BitRow<K>,
+    last: BitRow<K>,
 ) -> BitRow<K>
     requires words { HoldsBoxes K (box_count instance.now) }
-    requires sizes { IsSized instance.now state.now dim }
-    requires b { b < box_count instance.now }
     requires d { d < box_count instance.now }
+    requires within { (c : ℕ) → row_has free c ≡ true → c < box_count instance.now }
+    requires free { (c : ℕ) → c < box_count instance.now → (b ≡ c → ⊥) → row_has free c ≡ false
+        → IsTrue (excludes state.now.trail dim b c Overlap)
+        × IsTrue (excludes state.now.trail dim b c Before) }
+    requires last { (c : ℕ) → row_has last c ≡ true
+        → IsTrue (excludes state.now.trail dim d c Overlap)
+        → IsTrue (excludes state.now.trail dim d c Before) → ⊥ }
     ensures within { (c : ℕ) → row_has result c ≡ true → c < box_count instance.now }
     ensures others { (c : ℕ) → c < box_count instance.now → row_has result c ≡ false
         → IsCovered instance.now (excludes state.now.trail) state.now.trail (Order dim a b c d) }
 {
-    let free = either::<K>(instance, state, dim, b, Rel::Overlap, Rel::Before);
-    let last = either::<K>(instance, state, dim, d, Rel::Overlap, Rel::Before);
     free.minus(last).without(d)
 }
 
-/// The boxes b at which ORDER may exclude something at `c`, b, with the first box given.
+/// The boxes b at which ORDER may exclude something at `c`, b, with the first box given. `free` and
+/// `first` have the boxes that `c` and `a` may overlap or be after.
 #[inline(always)]
 pub(crate) fn beyond_orders_to<const K: usize>(
     instance: &Instance,
@@ -239,17 +246,22 @@ pub(crate) fn beyond_orders_to<const K: usize>(
     a: u32,
     c: u32,
     d: u32,
+    free: BitRow<K>,
+    first: BitRow<K>,
 ) -> BitRow<K>
     requires words { HoldsBoxes K (box_count instance.now) }
-    requires sizes { IsSized instance.now state.now dim }
     requires a { a < box_count instance.now }
-    requires c { c < box_count instance.now }
+    requires within { (b : ℕ) → row_has free b ≡ true → b < box_count instance.now }
+    requires free { (b : ℕ) → b < box_count instance.now → (c ≡ b → ⊥) → row_has free b ≡ false
+        → IsTrue (excludes state.now.trail dim c b Overlap)
+        × IsTrue (excludes state.now.trail dim c b After) }
+    requires first { (b : ℕ) → row_has first b ≡ true
+        → IsTrue (excludes state.now.trail dim a b Overlap)
+        → IsTrue (excludes state.now.trail dim a b After) → ⊥ }
     ensures within { (b : ℕ) → row_has result b ≡ true → b < box_count instance.now }
     ensures others { (b : ℕ) → b < box_count instance.now → row_has result b ≡ false
         → IsCovered instance.now (excludes state.now.trail) state.now.trail (Order dim a b c d) }
 {
-    let free = either::<K>(instance, state, dim, c, Rel::Overlap, Rel::After);
-    let first = either::<K>(instance, state, dim, a, Rel::Overlap, Rel::After);
     free.minus(first).without(a)
 }
 

@@ -34,7 +34,7 @@ pub(crate) fn exclude_each<const K: usize>(
     requires follows { (v : ℕ) → row_has row v ≡ true
         → Follows instance.now (excludes state.old.trail) dim u v rel }
     ensures worked { HasApplied instance.now state.old state.new result NoRule }
-    ensures exclude_if_too_long { (v : ℕ) → row_has row.entry v ≡ true
+    ensures excluded { (v : ℕ) → row_has row.entry v ≡ true
         → IsTrue (excludes state.new.trail dim u v rel) }
 {
     let open = state.row_in::<K>(dim, u, rel);
@@ -65,7 +65,7 @@ pub(crate) fn exclude_both<const K: usize>(
         → Follows instance.now (excludes state.old.trail) dim u v first
         × Follows instance.now (excludes state.old.trail) dim u v second }
     ensures worked { HasApplied instance.now state.old state.new result NoRule }
-    ensures exclude_if_too_long { result ≡ false → (v : ℕ) → row_has row.entry v ≡ true
+    ensures excluded { result ≡ false → (v : ℕ) → row_has row.entry v ≡ true
         → IsTrue (excludes state.new.trail dim u v first)
         × IsTrue (excludes state.new.trail dim u v second) }
 {
@@ -93,7 +93,7 @@ pub(crate) fn exclude_between<const K: usize>(
         → Follows instance.now (excludes state.old.trail) dim u v first
         × Follows instance.now (excludes state.old.trail) dim u v second }
     ensures worked { HasApplied instance.now state.old state.new result NoRule }
-    ensures exclude_if_too_long { result ≡ false → (u v : ℕ) → row_has from.entry u ≡ true
+    ensures excluded { result ≡ false → (u v : ℕ) → row_has from.entry u ≡ true
         → row_has to.entry v ≡ true → v < box_count instance.now → (u ≡ v → ⊥)
         → IsTrue (excludes state.new.trail dim u v first)
         × IsTrue (excludes state.new.trail dim u v second) }

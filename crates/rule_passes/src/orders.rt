@@ -33,10 +33,12 @@ fn may_order_lasts<const K: usize>(
         → c < box_count instance.now
         → IsCovered instance.now (excludes state.now.trail) state.now.trail (Order dim a b c d) }
 {
+    let free = either::<K>(instance, state, dim, b, Rel::Overlap, Rel::Before);
     let mut rest = lasts;
     while let Some(d) = rest.first() {
         rest = rest.without(d);
-        if !is_empty(beyond_orders_from::<K>(instance, state, dim, a, b, d)) {
+        let last = either::<K>(instance, state, dim, d, Rel::Overlap, Rel::Before);
+        if !is_empty(beyond_orders_from(instance, state, dim, a, b, d, free, last)) {
             return true;
         }
     }
@@ -62,10 +64,12 @@ fn may_order_firsts<const K: usize>(
         → b < box_count instance.now
         → IsCovered instance.now (excludes state.now.trail) state.now.trail (Order dim a b c d) }
 {
+    let free = either::<K>(instance, state, dim, c, Rel::Overlap, Rel::After);
     let mut rest = firsts;
     while let Some(a) = rest.first() {
         rest = rest.without(a);
-        if !is_empty(beyond_orders_to::<K>(instance, state, dim, a, c, d)) {
+        let first = either::<K>(instance, state, dim, a, Rel::Overlap, Rel::After);
+        if !is_empty(beyond_orders_to(instance, state, dim, a, c, d, free, first)) {
             return true;
         }
     }
@@ -98,10 +102,12 @@ fn may_order_seconds<const K: usize>(
     if is_empty(thirds) {
         return false;
     }
+    let last = either::<K>(instance, state, dim, d, Rel::Overlap, Rel::Before);
     let mut rest = seconds;
     while let Some(b) = rest.first() {
         rest = rest.without(b);
-        if !is_empty(beyond_orders_from::<K>(instance, state, dim, a, b, d)) {
+        let free = either::<K>(instance, state, dim, b, Rel::Overlap, Rel::Before);
+        if !is_empty(beyond_orders_from(instance, state, dim, a, b, d, free, last)) {
             return true;
         }
     }

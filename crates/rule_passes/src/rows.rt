@@ -75,7 +75,7 @@ pub(crate) fn either<const K: usize>(
     ensures within { (v : ℕ) → row_has result v ≡ true → v < box_count instance.now }
     ensures other { (v : ℕ) → row_has result v ≡ true
         → is_other_box (box_count instance.now) u v ≡ true }
-    ensures exclude_if_too_long { (v : ℕ) → v < box_count instance.now → (u ≡ v → ⊥) → row_has result v ≡ false
+    ensures excluded { (v : ℕ) → v < box_count instance.now → (u ≡ v → ⊥) → row_has result v ≡ false
         → IsTrue (excludes state.now.trail dim u v first)
         × IsTrue (excludes state.now.trail dim u v second) }
     ensures some { (v : ℕ) → row_has result v ≡ true
@@ -104,7 +104,7 @@ pub(crate) fn gone<const K: usize>(
     requires all { (x : ℕ) → row_has all x ≡ nat_lt x (box_count instance.now) }
     ensures within { (v : ℕ) → row_has result v ≡ true → v < box_count instance.now }
     ensures distinct { (v : ℕ) → row_has result v ≡ true → u ≡ v → ⊥ }
-    ensures exclude_if_too_long { (v : ℕ) → row_has result v ≡ true
+    ensures excluded { (v : ℕ) → row_has result v ≡ true
         → IsTrue (excludes state.now.trail dim u v first)
         × IsTrue (excludes state.now.trail dim u v second) }
     ensures others { (v : ℕ) → v < box_count instance.now → (u ≡ v → ⊥) → row_has result v ≡ false

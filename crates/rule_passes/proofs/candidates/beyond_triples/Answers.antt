@@ -44,7 +44,7 @@ returns-clause-others g c v small off = go (without_off _ v c.args.x (sym (c.wit
     go (inl f) =
         covered_triple c.args.instance.now c.args.state.now.trail c.args.dim c.args.u v c.args.x _ _
         (sym (c.minus.ensures v) ∙ f)
-        (λ ne f. c.either-free.ensures.exclude_if_too_long v small ne f)
+        (λ ne f. c.either-free.ensures.excluded v small ne f)
         (λ on. row_open _ c.args.dim c.args.x v (excludes c.args.state.now.trail) Overlap _
         (c.row_in-near.ensures v) on)
     go (inr e) =

@@ -21,7 +21,7 @@ returns-clause-joined g c d on =
     let outer = and_parts _ _ (sym (c.without.ensures d) ∙ on) in
     let inner = and_parts _ _ (sym (c.minus.ensures d) ∙ outer.0) in
     let ne : c.args.a ≡ d → ⊥ = λ e. true≢false (sym (eq-eqb d c.args.a (sym e)) ∙ not_true _ outer.1) in
-    (ne, c.either-first.ensures.exclude_if_too_long d (c.either-free.ensures.within d inner.0) ne (not_true _ inner.1))
+    (ne, c.either-first.ensures.excluded d (c.either-free.ensures.within d inner.0) ne (not_true _ inner.1))
 
 pub returns-clause-others : goal.returns-clause-others
 returns-clause-others g c = λ d small off e. go d e small (without_off _ d c.args.a (sym (c.without.ensures d) ∙ off))
@@ -33,7 +33,7 @@ returns-clause-others g c = λ d small off e. go d e small (without_off _ d c.ar
     go d e small (inl f) =
         covered_fourth c.args.instance.now c.args.state.now.trail c.args.dim c.args.a c.args.b e d _ _
         (sym (c.minus.ensures d) ∙ f)
-        (λ ne f. c.either-free.ensures.exclude_if_too_long d small ne f) (λ on. c.either-first.ensures.some d on)
+        (λ ne f. c.either-free.ensures.excluded d small ne f) (λ on. c.either-first.ensures.some d on)
     go d e small (inr same) =
         covered_no_instance c.args.instance.now _ c.args.state.now.trail (Cycle c.args.dim c.args.a c.args.b e d)
         (λ is. is.1.1.1.1.0 (sym same))

@@ -12,7 +12,7 @@ pub returns-clause-members : goal.returns-clause-members
 returns-clause-members g c x on =
     let both = and_parts _ _ (sym (c.and.ensures x) ∙ on) in (
       c.gone-first.ensures.distinct x both.0,
-      (c.gone.ensures.distinct x both.1, (c.gone-first.ensures.exclude_if_too_long x both.0, c.gone.ensures.exclude_if_too_long x both.1)),
+      (c.gone.ensures.distinct x both.1, (c.gone-first.ensures.excluded x both.0, c.gone.ensures.excluded x both.1)),
     )
 
 pub returns-clause-others : goal.returns-clause-others

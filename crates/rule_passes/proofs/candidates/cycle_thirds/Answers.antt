@@ -23,7 +23,7 @@ returns-clause-members g c x on =
       (
         c.gone-joined.ensures.distinct x inner.0,
         (
-          c.gone-joined.ensures.exclude_if_too_long x inner.0,
+          c.gone-joined.ensures.excluded x inner.0,
           row_shut (box_count c.args.instance.now) c.args.dim c.args.a x (excludes c.args.state.now.trail) Overlap _
               (c.gone-joined.ensures.within x inner.0) ne
               ((rw c.requires.sizes.same_boxes at c.row_in-near.ensures) x) (not_true _ inner.1),

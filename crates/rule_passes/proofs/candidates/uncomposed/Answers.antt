@@ -19,8 +19,8 @@ returns-then-has-clause-other g c = λ x on. absurd (true≢false (sym on ∙ c.
 pub returns-then-has-clause-follows : goal.returns-then-has-clause-follows
 returns-then-has-clause-follows g c = λ x on. absurd (true≢false (sym on ∙ c.empty.ensures x))
 
-pub returns-then-has-clause-exclude_if_too_long : goal.returns-then-has-clause-exclude_if_too_long
-returns-then-has-clause-exclude_if_too_long g c = λ x off q s is concludes.
+pub returns-then-has-clause-excluded : goal.returns-then-has-clause-excluded
+returns-then-has-clause-excluded g c = λ x off q s is concludes.
     absurd (compose_kept c.args.instance.now (excludes c.args.state.now.trail) c.args.dim c.args.u c.args.v x c.args.rel
     s.0 (mask_has c.args.left) c.requires.left (sym c.has.ensures ∙ c.if-has.true) s.1 concludes)
 
@@ -50,8 +50,8 @@ returns-clause-follows g c = λ x on.
     at x Before = (rw c.requires.sizes.same_boxes at c.row_in-before.ensures) x
     at x After = (rw c.requires.sizes.same_boxes at c.row_in-after.ensures) x
 
-pub returns-clause-exclude_if_too_long : goal.returns-clause-exclude_if_too_long
-returns-clause-exclude_if_too_long g c = λ x off q s is concludes.
+pub returns-clause-excluded : goal.returns-clause-excluded
+returns-clause-excluded g c = λ x off q s is concludes.
     compose_shut c.args.instance.now (excludes c.args.state.now.trail) c.args.dim c.args.u c.args.v x c.args.rel q.0 s.0
     (mask_has c.args.left) (row_at x) _ _ is c.requires.left (at x)
     ((rw c.requires.sizes.same_boxes at c.row_in-open.ensures) x) q.1 s.1 (sym c.has.ensures ∙ c.if-has.false)

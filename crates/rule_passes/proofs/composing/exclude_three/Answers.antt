@@ -26,14 +26,14 @@ returns-clause-worked g c =
 pub returns-clause-overlap : goal.returns-clause-overlap
 returns-clause-overlap g c = λ e x on.
     c.exclude_each-3.ensures.worked.extends.kept c.args.dim c.args.u x Overlap
-    (c.exclude_each-2.ensures.worked.extends.kept c.args.dim c.args.u x Overlap (c.exclude_each.ensures.exclude_if_too_long x on))
+    (c.exclude_each-2.ensures.worked.extends.kept c.args.dim c.args.u x Overlap (c.exclude_each.ensures.excluded x on))
 
 pub returns-clause-before : goal.returns-clause-before
 returns-clause-before g c = λ e x on.
-    c.exclude_each-3.ensures.worked.extends.kept c.args.dim c.args.u x Before (c.exclude_each-2.ensures.exclude_if_too_long x on)
+    c.exclude_each-3.ensures.worked.extends.kept c.args.dim c.args.u x Before (c.exclude_each-2.ensures.excluded x on)
 
 pub returns-clause-after : goal.returns-clause-after
-returns-clause-after g c = λ e x on. c.exclude_each-3.ensures.exclude_if_too_long x on
+returns-clause-after g c = λ e x on. c.exclude_each-3.ensures.excluded x on
 
 pub exclude_each-requires : goal.exclude_each-requires
 exclude_each-requires g c = (

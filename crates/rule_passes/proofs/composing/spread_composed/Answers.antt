@@ -75,9 +75,9 @@ returns g c =
             (row_has c.uncomposed-before.result x) (row_has c.uncomposed-after.result x) r ≡ false
             → IsRuleInstance c.args.instance.now (Compose c.args.dim c.args.u c.args.v x)
             → Concludes X (Compose c.args.dim c.args.u c.args.v x) r → X c.args.dim c.args.u x r ≡ true
-        others q s Overlap off is k = c.uncomposed-overlap.ensures.exclude_if_too_long x off q s is k
-        others q s Before off is k = c.uncomposed-before.ensures.exclude_if_too_long x off q s is k
-        others q s After off is k = c.uncomposed-after.ensures.exclude_if_too_long x off q s is k
+        others q s Overlap off is k = c.uncomposed-overlap.ensures.excluded x off q s is k
+        others q s Before off is k = c.uncomposed-before.ensures.excluded x off q s is k
+        others q s After off is k = c.uncomposed-after.ensures.excluded x off q s is k
 
     back : c.exclude_three-2.result ≡ false → Full → (x : ℕ) → x < box_count c.args.instance.now
         → IsRuleInstance c.args.instance.now (Compose c.args.dim c.args.v c.args.u x)
@@ -103,9 +103,9 @@ returns g c =
             (row_has c.uncomposed-before_back.result x) (row_has c.uncomposed-after_back.result x) r ≡ false
             → IsRuleInstance c.args.instance.now (Compose c.args.dim c.args.v c.args.u x)
             → Concludes X (Compose c.args.dim c.args.v c.args.u x) r → X c.args.dim c.args.v x r ≡ true
-        others q s Overlap off is k = c.uncomposed-overlap_back.ensures.exclude_if_too_long x off q s is k
-        others q s Before off is k = c.uncomposed-before_back.ensures.exclude_if_too_long x off q s is k
-        others q s After off is k = c.uncomposed-after_back.ensures.exclude_if_too_long x off q s is k
+        others q s Overlap off is k = c.uncomposed-overlap_back.ensures.excluded x off q s is k
+        others q s Before off is k = c.uncomposed-before_back.ensures.excluded x off q s is k
+        others q s After off is k = c.uncomposed-after_back.ensures.excluded x off q s is k
 
     go : c.exclude_three-2.result ≡ false → Full → (rule : Rule)
         → Composes c.args.instance.now c.args.dim c.args.u c.args.v rule

@@ -56,7 +56,7 @@ returns g c =
         → (excludes c.exclude_between.new.state.trail c.args.dim b d Before ≡ true)
         × (excludes c.exclude_between.new.state.trail c.args.dim b d After ≡ true)
     there e b d is p =
-        c.exclude_between.ensures.exclude_if_too_long e b d
+        c.exclude_between.ensures.excluded e b d
         (among b is.1.2.0 is.1.1.0 (λ q. is.1.2.1.0 (sym q)) p.0 p.1)
         (among d is.1.2.2.2.0 is.1.1.1.1.0 is.1.2.2.1.0 (joined_back c.args.state.now.trail c.args.dim d c.args.a p.3)
         (joined_back c.args.state.now.trail c.args.dim c.args.c d p.2)) is.1.2.2.2.0 is.1.2.1.1.0
@@ -67,7 +67,7 @@ returns g c =
         → (excludes c.exclude_between.new.state.trail c.args.dim b d Before ≡ true)
         × (excludes c.exclude_between.new.state.trail c.args.dim b d After ≡ true)
     back e b d is p =
-        c.exclude_between.ensures.exclude_if_too_long e b d
+        c.exclude_between.ensures.excluded e b d
         (among b is.1.2.0 (λ q. is.1.2.1.0 (sym q)) is.1.1.0 (joined_back c.args.state.now.trail c.args.dim b c.args.a p.1)
         (joined_back c.args.state.now.trail c.args.dim c.args.c b p.0))
         (among d is.1.2.2.2.0 is.1.2.2.1.0 is.1.1.1.1.0 p.2 p.3) is.1.2.2.2.0 is.1.2.1.1.0

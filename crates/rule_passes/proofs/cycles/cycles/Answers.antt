@@ -51,7 +51,7 @@ returns g c =
         → (row_has c.gone_of_any-closing.result d ≡ true) ⊎ (row_has c.gone_of_any-closing.result d ≡ false)
         → (excludes c.exclude_both.new.state.trail c.args.dim c.args.b d Before ≡ true)
         × (excludes c.exclude_both.new.state.trail c.args.dim c.args.b d After ≡ true)
-    go e x d is p (inl h) (inl k) = c.exclude_both.ensures.exclude_if_too_long e d (c.and-row.ensures d ∙ (rw (h, k) refl))
+    go e x d is p (inl h) (inl k) = c.exclude_both.ensures.excluded e d (c.and-row.ensures d ∙ (rw (h, k) refl))
     go e x d is p (inl h) (inr k) =
         absurd (c.gone_of_any-closing.ensures.others x d (third_in x d is p) is.1.2.2.2.0 is.1.2.2.1.0 k p.2.0 p.2.1)
     go e x d is p (inr h) k =

@@ -30,4 +30,4 @@ loop-b-preserved g c = record {
         → row_has c.args.row y ≡ true → (x ≡ y → ⊥) → IsJoined (excludes c.args.state.now.trail) c.args.dim x y
     go x y on (inl off) there ne = c.loop-b.invariant.others x y on off there ne
     go x y on (inr e) there ne =
-        rw e (c.either-open.ensures.exclude_if_too_long y (c.requires.within y there) (λ f. ne (e ∙ f)) (closed y there))
+        rw e (c.either-open.ensures.excluded y (c.requires.within y there) (λ f. ne (e ∙ f)) (closed y there))

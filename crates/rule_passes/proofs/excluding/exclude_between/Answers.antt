@@ -17,7 +17,7 @@ pub loop-u-init : goal.loop-u-init
 loop-u-init g c = record {
   work = worked_none c.args.instance.now _ _ (λ rule none. absurd none);
   part = λ x on. on;
-  exclude_if_too_long = λ x y on off. absurd (true≢false (sym on ∙ off));
+  excluded = λ x y on off. absurd (true≢false (sym on ∙ off));
 }
 
 pub loop-u-smaller : goal.loop-u-smaller
@@ -34,7 +34,7 @@ loop-u-preserved g c = record {
   work = none_then c.args.instance.now _ _ _ _ c.loop-u.invariant.work
       (worked_kept _ _ _ _ NoRule c.if-exclude_both.false c.exclude_both.ensures.worked);
   part = λ x on. c.loop-u.invariant.part x (and_parts _ _ (sym (c.without-rest.ensures x) ∙ on)).0;
-  exclude_if_too_long = λ x y on off to small ne. go x y on (without_off _ x c.in-Some.u (sym (c.without-rest.ensures x) ∙ off)) to
+  excluded = λ x y on off to small ne. go x y on (without_off _ x c.in-Some.u (sym (c.without-rest.ensures x) ∙ off)) to
       small ne;
 }
   where
@@ -52,22 +52,22 @@ loop-u-preserved g c = record {
         → (excludes c.exclude_both.new.state.trail c.args.dim c.in-Some.u y c.args.first ≡ true)
         × (excludes c.exclude_both.new.state.trail c.args.dim c.in-Some.u y c.args.second ≡ true)
     here y to small ne (inl free) =
-        c.exclude_both.ensures.exclude_if_too_long c.if-exclude_both.false y (c.and.ensures y ∙ (rw (free, to) refl))
-    here y to small ne (inr exclude_if_too_long) = kept c.in-Some.u y (c.either-open.ensures.exclude_if_too_long y small ne exclude_if_too_long)
+        c.exclude_both.ensures.excluded c.if-exclude_both.false y (c.and.ensures y ∙ (rw (free, to) refl))
+    here y to small ne (inr excluded) = kept c.in-Some.u y (c.either-open.ensures.excluded y small ne excluded)
 
     go : (x y : ℕ) → row_has c.args.from x ≡ true → (row_has c.loop-u.rest x ≡ false) ⊎ (x ≡ c.in-Some.u)
         → row_has c.args.to y ≡ true → y < box_count c.args.instance.now → (x ≡ y → ⊥)
         → (excludes c.exclude_both.new.state.trail c.args.dim x y c.args.first ≡ true)
         × (excludes c.exclude_both.new.state.trail c.args.dim x y c.args.second ≡ true)
-    go x y on (inl off) to small ne = kept x y (c.loop-u.invariant.exclude_if_too_long x y on off to small ne)
+    go x y on (inl off) to small ne = kept x y (c.loop-u.invariant.excluded x y on off to small ne)
     go x y on (inr e) to small ne = rw e (here y to small (λ f. ne (e ∙ f)) (cases_Bool _))
 
 pub returns-clause-worked : goal.returns-clause-worked
 returns-clause-worked g c = c.loop-u.invariant.work
 
-pub returns-clause-exclude_if_too_long : goal.returns-clause-exclude_if_too_long
-returns-clause-exclude_if_too_long g c = λ e x y on to small ne.
-    c.loop-u.invariant.exclude_if_too_long x y on (c.in_default.ensures.least x) to small ne
+pub returns-clause-excluded : goal.returns-clause-excluded
+returns-clause-excluded g c = λ e x y on to small ne.
+    c.loop-u.invariant.excluded x y on (c.in_default.ensures.least x) to small ne
 
 pub either-open-requires : goal.either-open-requires
 either-open-requires g c = (

@@ -10,7 +10,7 @@ abbrev pub invariant-loop-u : goal.invariant-loop-u
 invariant-loop-u g l = record {
   work : HasApplied l.instance l.fn.state l.state false NoRule;
   part : (x : ℕ) → row_has l.rest x ≡ true → row_has l.fn.from x ≡ true;
-  exclude_if_too_long : (x y : ℕ) → row_has l.fn.from x ≡ true → row_has l.rest x ≡ false → row_has l.fn.to y ≡ true
+  excluded : (x y : ℕ) → row_has l.fn.from x ≡ true → row_has l.rest x ≡ false → row_has l.fn.to y ≡ true
       → y < box_count l.instance → (x ≡ y → ⊥)
       → (excludes l.state.trail l.dim x y l.first ≡ true) × (excludes l.state.trail l.dim x y l.second ≡ true);
 }

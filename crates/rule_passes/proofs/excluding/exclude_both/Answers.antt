@@ -14,11 +14,11 @@ returns-clause-worked g c =
     none_then c.args.instance.now _ _ _ _
     (worked_kept _ _ _ _ NoRule c.if-exclude_each.false c.exclude_each.ensures.worked) c.exclude_each-2.ensures.worked
 
-pub returns-clause-exclude_if_too_long : goal.returns-clause-exclude_if_too_long
-returns-clause-exclude_if_too_long g c = λ off v on. (
+pub returns-clause-excluded : goal.returns-clause-excluded
+returns-clause-excluded g c = λ off v on. (
   c.exclude_each-2.ensures.worked.extends.kept c.args.dim c.args.u v c.args.first
-      (c.exclude_each.ensures.exclude_if_too_long v on),
-  c.exclude_each-2.ensures.exclude_if_too_long v on,
+      (c.exclude_each.ensures.excluded v on),
+  c.exclude_each-2.ensures.excluded v on,
 )
 
 pub exclude_each-requires : goal.exclude_each-requires

@@ -9,8 +9,8 @@ use Rattle.rule_passes.proofs.excluding.exclude_each.Goals as goal
 pub returns-then-is_empty-clause-worked : goal.returns-then-is_empty-clause-worked
 returns-then-is_empty-clause-worked g c = worked_none c.args.instance.now _ _ (λ rule none. absurd none)
 
-pub returns-then-is_empty-clause-exclude_if_too_long : goal.returns-then-is_empty-clause-exclude_if_too_long
-returns-then-is_empty-clause-exclude_if_too_long g c =
+pub returns-then-is_empty-clause-excluded : goal.returns-then-is_empty-clause-excluded
+returns-then-is_empty-clause-excluded g c =
     row_none_left (box_count c.args.instance.now) c.args.dim c.args.u c.args.rel c.args.state.now.trail
     (row_has c.args.row) (row_has c.row_in-open.result) (row_has c.and-left.result) c.requires.other
     (rw c.requires.sizes.same_boxes at c.row_in-open.ensures) c.and-left.ensures
@@ -24,8 +24,8 @@ returns-clause-worked g c =
     (λ v on. c.requires.follows v (and_parts _ _ (sym (c.and-left.ensures v) ∙ on)).0)
     c.exclude_row.ensures.empty
 
-pub returns-clause-exclude_if_too_long : goal.returns-clause-exclude_if_too_long
-returns-clause-exclude_if_too_long g c = λ v on.
+pub returns-clause-excluded : goal.returns-clause-excluded
+returns-clause-excluded g c = λ v on.
     rw c.exclude_row.ensures.state
     (rw c.requires.sizes.same_boxes
     (row_all_shut (box_count c.args.instance.now) c.args.dim c.args.u c.args.rel c.args.state.now.trail

@@ -32,7 +32,7 @@ returns g c =
     worked_from c.args.instance.now _ _ _ _ (λ e rule r. named_shut c.args.instance.now _ _ rule _ r.2.2
     (covered_shut c.args.instance.now _ _ (Order c.args.dim c.args.a r.0 r.2.0 c.args.d)
     (λ is p s k. shut_before (excludes c.exclude_between.new.state.trail) c.args.dim r.2.0 r.0 s k (turned r.0 r.2.0
-    (c.exclude_between.ensures.exclude_if_too_long e r.0 r.2.0 (second_in r.0 r.2.0 is p) (third_in r.0 r.2.0 is p) is.1.2.2.0
+    (c.exclude_between.ensures.excluded e r.0 r.2.0 (second_in r.0 r.2.0 is p) (third_in r.0 r.2.0 is p) is.1.2.2.0
     is.1.2.1.0)))))
     c.exclude_between.ensures.worked
   where
@@ -89,8 +89,8 @@ exclude_between-requires g c = (
         let third = and_parts _ _ (sym (c.without-2.ensures x) ∙ two) in
         let not_d : b ≡ c.args.d → ⊥ = λ e. true≢false (sym (eq-eqb b c.args.d e) ∙ not_true _ second.1) in
         let not_a : c.args.a ≡ x → ⊥ = λ e. true≢false (sym (eq-eqb x c.args.a (sym e)) ∙ not_true _ third.1) in
-        let after = c.gone-seconds.ensures.exclude_if_too_long b second.0 in
-        let before = c.gone-thirds.ensures.exclude_if_too_long x third.0 in
+        let after = c.gone-seconds.ensures.excluded b second.0 in
+        let before = c.gone-thirds.ensures.excluded x third.0 in
         order_follows_back c.args.instance.now (excludes c.args.state.now.trail) c.args.dim c.args.a b x c.args.d (
           c.requires.sizes.there,
           (

@@ -72,12 +72,12 @@ returns g c =
         × (excludes c.exclude_both.new.state.trail c.args.dim c.args.b x Before ≡ true)
     go e x d is p (inl h) =
         let inner : row_has c.and.result x ≡ true = c.and.ensures x ∙ (rw (third_in x d is p, h) refl) in
-        c.exclude_both.ensures.exclude_if_too_long e x
+        c.exclude_both.ensures.excluded e x
         (c.without-row.ensures x ∙ (rw (inner, eqb_false x c.args.a (λ f. is.1.1.1.0 (sym f))) refl))
     go e x d is p (inr h) =
-        let exclude_if_too_long = c.either-open.ensures.exclude_if_too_long x is.1.2.2.0 is.1.2.1.0 h in (
-          c.exclude_both.ensures.worked.extends.kept c.args.dim c.args.b x Overlap exclude_if_too_long.0,
-          c.exclude_both.ensures.worked.extends.kept c.args.dim c.args.b x Before exclude_if_too_long.1,
+        let excluded = c.either-open.ensures.excluded x is.1.2.2.0 is.1.2.1.0 h in (
+          c.exclude_both.ensures.worked.extends.kept c.args.dim c.args.b x Overlap excluded.0,
+          c.exclude_both.ensures.worked.extends.kept c.args.dim c.args.b x Before excluded.1,
         )
 
 pub gone_of_any-thirds-requires : goal.gone_of_any-thirds-requires
@@ -145,5 +145,5 @@ exclude_both-requires g c = (
             excludes_symmetric c.args.state.now.trail c.args.dim last.box x Overlap last.one,
             excludes_symmetric c.args.state.now.trail c.args.dim last.box x Before last.other,
           ),
-          (c.gone-lasts.ensures.exclude_if_too_long last.box member.0).0,
+          (c.gone-lasts.ensures.excluded last.box member.0).0,
         )

@@ -62,12 +62,12 @@ returns g c =
         × (excludes c.exclude_both.new.state.trail c.args.dim c.args.c x After ≡ true)
     go e a x is p (inl h) =
         let inner : row_has c.and.result x ≡ true = c.and.ensures x ∙ (rw (second_in a x is p, h) refl) in
-        c.exclude_both.ensures.exclude_if_too_long e x
+        c.exclude_both.ensures.excluded e x
         (c.without-row.ensures x ∙ (rw (inner, eqb_false x c.args.d is.1.2.1.1.0) refl))
     go e a x is p (inr h) =
-        let exclude_if_too_long = c.either-open.ensures.exclude_if_too_long x is.1.2.0 (λ f. is.1.2.1.0 (sym f)) h in (
-          c.exclude_both.ensures.worked.extends.kept c.args.dim c.args.c x Overlap exclude_if_too_long.0,
-          c.exclude_both.ensures.worked.extends.kept c.args.dim c.args.c x After exclude_if_too_long.1,
+        let excluded = c.either-open.ensures.excluded x is.1.2.0 (λ f. is.1.2.1.0 (sym f)) h in (
+          c.exclude_both.ensures.worked.extends.kept c.args.dim c.args.c x Overlap excluded.0,
+          c.exclude_both.ensures.worked.extends.kept c.args.dim c.args.c x After excluded.1,
         )
 
 pub gone_of_any-seconds-requires : goal.gone_of_any-seconds-requires
@@ -129,5 +129,5 @@ exclude_both-requires g c = (
           (first.one, first.other),
           sure_cd,
           excludes_symmetric c.args.state.now.trail c.args.dim c.args.d first.box After
-              (c.gone-firsts.ensures.exclude_if_too_long first.box member.0).0,
+              (c.gone-firsts.ensures.excluded first.box member.0).0,
         )

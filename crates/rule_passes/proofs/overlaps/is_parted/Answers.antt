@@ -3,7 +3,7 @@ use Rattle.rule_passes.proofs.overlaps.is_parted.Goals as goal
 
 pub returns-clause-joined : goal.returns-clause-joined
 returns-clause-joined g c off ne =
-    c.either-apart.ensures.exclude_if_too_long c.args.v c.requires.v c.requires.distinct (sym c.has.ensures ∙ off)
+    c.either-apart.ensures.excluded c.args.v c.requires.v c.requires.distinct (sym c.has.ensures ∙ off)
 
 pub returns-clause-parted : goal.returns-clause-parted
 returns-clause-parted g c on =

@@ -16,8 +16,8 @@ returns-clause-other g c v on =
     ((rw c.requires.sizes.same_boxes at c.row_in-one.ensures) v)
     ((rw c.requires.sizes.same_boxes at c.row_in-other.ensures) v) (c.or.ensures v) on
 
-pub returns-clause-exclude_if_too_long : goal.returns-clause-exclude_if_too_long
-returns-clause-exclude_if_too_long g c v small ne off =
+pub returns-clause-excluded : goal.returns-clause-excluded
+returns-clause-excluded g c v small ne off =
     either_shut (box_count c.args.instance.now) c.args.dim c.args.u v (excludes c.args.state.now.trail) c.args.first
     c.args.second _ _ _ small ne ((rw c.requires.sizes.same_boxes at c.row_in-one.ensures) v)
     ((rw c.requires.sizes.same_boxes at c.row_in-other.ensures) v) (c.or.ensures v) off

@@ -15,11 +15,11 @@ pub returns-clause-distinct : goal.returns-clause-distinct
 returns-clause-distinct g c v on e =
     true≢false (sym (eq-eqb v c.args.u (sym e)) ∙ not_true _ (and_parts _ _ (sym (c.without.ensures v) ∙ on)).1)
 
-pub returns-clause-exclude_if_too_long : goal.returns-clause-exclude_if_too_long
-returns-clause-exclude_if_too_long g c v on =
+pub returns-clause-excluded : goal.returns-clause-excluded
+returns-clause-excluded g c v on =
     let both = and_parts _ _ (sym (c.without.ensures v) ∙ on) in
     let within = gone_within (box_count c.args.instance.now) v _ _ _ (c.requires.all v) (c.minus.ensures v) both.0 in
-    c.either-left.ensures.exclude_if_too_long v within
+    c.either-left.ensures.excluded v within
     (λ e. true≢false (sym (eq-eqb v c.args.u (sym e)) ∙ not_true _ both.1))
     (not_true _ (and_parts _ _ (sym (c.minus.ensures v) ∙ both.0)).1)
 

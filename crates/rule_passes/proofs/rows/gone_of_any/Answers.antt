@@ -43,8 +43,8 @@ loop-x-preserved g c = record {
       box = c.in-Some.x;
       member = c.loop-x.invariant.part _ c.in-Some.ensures.least.there;
       distinct = c.gone.ensures.distinct y h;
-      one = (c.gone.ensures.exclude_if_too_long y h).0;
-      other = (c.gone.ensures.exclude_if_too_long y h).1;
+      one = (c.gone.ensures.excluded y h).0;
+      other = (c.gone.ensures.excluded y h).1;
     }
 
     go : (x y : ℕ) → row_has c.args.row x ≡ true → (row_has c.loop-x.rest x ≡ false) ⊎ (x ≡ c.in-Some.x)

@@ -23,7 +23,7 @@ returns g c =
         → (s : Rel) → s ≢ Overlap
         → (row_has c.long_among-long.result v ≡ true) ⊎ (row_has c.long_among-long.result v ≡ false)
         → excludes c.exclude_both.new.state.trail c.args.dim c.args.u v s ≡ true
-    go e v on over s k (inl h) = shut_joined (excludes c.exclude_both.new.state.trail) c.args.dim c.args.u v s k (c.exclude_both.ensures.exclude_if_too_long e v h)
+    go e v on over s k (inl h) = shut_joined (excludes c.exclude_both.new.state.trail) c.args.dim c.args.u v s k (c.exclude_both.ensures.excluded e v h)
     go e v on over s k (inr h) =
         let fits = c.requires.least _ (c.long_among-long.ensures.others v on h) in absurd (omega (arith, over, fits))
 
