@@ -28,7 +28,7 @@ pub shut_off : (instance : PlainInstance) (i n limit : ℕ) (head tail : List �
     → out ≡ row && ltb limit (slice_index head u + slice_index tail v) → out ≡ false
     → IsChainChecked instance i head tail u v es
 shut_off instance i n limit head tail u v es row out hv same is beyond off = record {
-  excluded = λ ne wide. row_shut n i u v (excludes es) Before row hv ne is (not_in wide);
+  shut = λ ne wide. row_shut n i u v (excludes es) Before row hv ne is (not_in wide);
 }
   where
     not_in : container_side instance i < slice_index head u + slice_index tail v → row ≡ false
@@ -87,7 +87,7 @@ module _ (instance : PlainInstance) (a : PlainEdges) (i limit : ℕ) (head tail 
       excluded : (v : ℕ) → v < box_count instance → (out v ≡ true) ⊎ (out v ≡ false)
           → IsChainChecked instance i head tail u v (with_row a.trail i u Before out a.boxes)
       excluded v hv (inl on) = record {
-        excluded = λ ne wide. row_takes i u Before a.trail out a.boxes i u v Before
+        shut = λ ne wide. row_takes i u Before a.trail out a.boxes i u v Before
             (taken_at v (omega (arith, hv, sizes.same_boxes)) on);
       }
       excluded v hv (inr off) = shut_kept instance i head tail u v a.trail _ (row_keeps i u Before a.trail out a.boxes)
