@@ -4,8 +4,9 @@ use bounded_proposals::BoundedEffort;
 use bounded_search::TreeLimits;
 
 // Steps of proposed trees for each branching of the budget: the default budget of 1,000,000 allows
-// 250,000,000 steps of 30 to 60 nanoseconds, some 10 s.
-const STEPS_PER_BRANCHING: u64 = 250;
+// 200,000,000 steps of 30 to 60 nanoseconds, some 8 s. With 250 for each branching the same 33 of 62
+// instances were closed, and the longest run took half as much time again.
+const STEPS_PER_BRANCHING: u64 = 200;
 
 // The fewest steps, which take 2 ms, and the most.
 const MIN_STEPS: u64 = 20_000;
