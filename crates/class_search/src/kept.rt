@@ -7,7 +7,7 @@ ghost use Rattle.class_search.specs.Kept.{IsPausedWalk, standing_tree, IsKeptOf,
 
 use crate::search::Search;
 use crate::visit::NodeKind;
-use crate::walk::{End, Walk, resume_walk, under_budget};
+use crate::walk::{End, Walk, resume_walk, to_node};
 use box_instances::{Instance, NoMemory};
 use edge_state::EdgeState;
 use proof_tree::{CompactTokens, Outcome};
@@ -128,7 +128,7 @@ impl<'a> PausedWalk<'a> {
         }
         let split = walk.frames.remove(0);
         walk.tokens.drop_first();
-        let node = told(NodeKind::Divided {
+        let node = to_node(NodeKind::Divided {
             split: split.split,
             rank: split.rank,
         });
@@ -179,7 +179,7 @@ impl<'a> PausedWalk<'a> {
 
 impl Refuted {
     // Its outcome under a cap.
-    fn told(self, cap: u64) -> Outcome
+    fn under_cap(self, cap: u64) -> Outcome
         ensures { (tree : SearchTree)
             → outcome tree ≡ No self.tokens self.count
             → plain_outcome result ≡ under_budget cap (outcome tree) }
@@ -202,7 +202,7 @@ impl<'a> Kept<'a> {
     {
         match self {
             Kept::Refuted(refuted) => Ok(Explored {
-                outcome: refuted.told(cap),
+                outcome: refuted.under_cap(cap),
                 left: None,
             }),
             Kept::PausedWalk(standing) => standing.explored(search.alloc, search.pairs, cap),

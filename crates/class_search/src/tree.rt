@@ -19,7 +19,7 @@ use crate::root::{Arrival, visit_class_root};
 use crate::same::{are_same_exclusions, are_same_instances};
 use crate::search::Search;
 use crate::visit::visit_root;
-use crate::walk::{Walk, descend, under_budget};
+use crate::walk::{Walk, descend, to_node};
 use box_instances::{Instance, NoMemory};
 use edge_state::{EdgeState, Exclusion};
 use proof_tree::{CompactTokens, Outcome};
@@ -255,7 +255,7 @@ impl<'a> Tree for ClassTree<'a> {
         let mut closer = Closer::new(alloc, self.instance.dims(), self.instance.len())?;
         match self.come_to(alloc, &mut state, &mut closer, path) {
             Arrival::RefutedRoot(_) => Ok(Node::Leaf),
-            Arrival::Inner(node) => Ok(told(node)),
+            Arrival::Inner(node) => Ok(to_node(node)),
         }
     }
 

@@ -258,7 +258,7 @@ pub(crate) fn descend(
 }
 
 // What is reported of a node of this kind.
-pub(crate) fn told(node: NodeKind) -> Node
+pub(crate) fn to_node(node: NodeKind) -> Node
     requires { IsAmong 4 128 node }
     ensures { (instance : PlainInstance) (es : List PlainExclusion)
         → plain_node result ≡ node_view (kind_tree instance es node) }

@@ -23,8 +23,8 @@ overflow_sub-walk c =
     c.remove-split.ensures.value in
     (met_some c.args.self c.remove-split.result _ f c.requires).1
 
-pub told-node-requires : goal.told-node-requires
-told-node-requires c =
+pub to_node-node-requires : goal.to_node-node-requires
+to_node-node-requires c =
     let l = c.remove-split.ensures.len in
     let f = head_apart c.args.self.walk.frames.items c.remove-split.result (omega (arith, l))
     c.remove-split.ensures.value in
@@ -48,8 +48,8 @@ returns-in_default c =
       node = c.args.self.walk.node;
     } in
     record {
-      node = met_node c.args.self c.remove-split.result _ f c.requires node_view (plain_node c.told-node.result)
-          (λ es. c.told-node.ensures c.args.self.instance.now es);
+      node = met_node c.args.self c.remove-split.result _ f c.requires node_view (plain_node c.to_node-node.result)
+          (λ es. c.to_node-node.ensures c.args.self.instance.now es);
       parts = left_first c.args.self c.remove-split.result _ f c.requires w c.in_default.is
           c.remove-split.ensures.items
           (λ t ts e. c.drop_first.ensures ∙ ap (drop 1) e) (omega (arith, m)) refl;
@@ -95,8 +95,8 @@ returns c =
     } in
     let refuted : RefutedNode = record { tokens = c.in-Ok.tokens; count = size.count } in
     record {
-      node = met_node c.args.self c.remove-split.result _ f c.requires node_view (plain_node c.told-node.result)
-          (λ es. c.told-node.ensures c.args.self.instance.now es);
+      node = met_node c.args.self c.remove-split.result _ f c.requires node_view (plain_node c.to_node-node.result)
+          (λ es. c.to_node-node.ensures c.args.self.instance.now es);
       parts = (
         left_behind c.args.self c.remove-split.result _ f c.requires refuted size c.in-Some.is
             (λ t ts e. c.in-Ok.ensures.first
