@@ -6,7 +6,6 @@ use crate::space::{Root, apart_rows, root};
 use box_instances::{Instance, NoMemory};
 use edge_state::EdgeState;
 use family_tokens::{FamilyToken, Token};
-use lenient_lists::pushed;
 use std::alloc::Global;
 
 // A family in one dimension that is longer than the container: begun with each box in turn, and
@@ -62,8 +61,10 @@ fn family_of(
 // A tree of one leaf.
 fn leaf_alone(alloc: Global, leaf: Token) -> Result<Vec<FamilyToken>, NoMemory> {
     let mut lines = Vec::new(alloc);
-    pushed(&mut lines, FamilyToken::Plain(leaf))?;
-    Ok(lines)
+    match lines.push(FamilyToken::Plain(leaf)) {
+        Ok(()) => Ok(lines),
+        Err(_) => Err(NoMemory),
+    }
 }
 
 /// A refutation of an instance at its root: the leaf of a box that is longer than the container or
