@@ -2,7 +2,7 @@
 
 use crate::growing::{JoinOrder, grown, sorted_boxes};
 use crate::lines::family_lines;
-use crate::space::{Root, apart_rows, root};
+use crate::space::{Root, apart_rows, test_root};
 use box_instances::{Instance, NoMemory};
 use edge_state::EdgeState;
 use family_tokens::{FamilyToken, Token};
@@ -78,7 +78,7 @@ pub fn propose_family(
     alloc: Global,
     instance: &Instance,
 ) -> Result<Option<Vec<FamilyToken>>, NoMemory> {
-    match root(alloc, instance)? {
+    match test_root(alloc, instance)? {
         Root::Leaf(leaf) => Ok(Some(leaf_alone(alloc, leaf)?)),
         Root::Open(state) => family_of(alloc, instance, &state),
     }

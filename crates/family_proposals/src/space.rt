@@ -28,7 +28,7 @@ fn closed_root(alloc: Global, instance: &Instance) -> Result<Root, NoMemory> {
 }
 
 /// The root of an instance: a box that is longer than the container, else what its closure comes to.
-pub(crate) fn root(alloc: Global, instance: &Instance) -> Result<Root, NoMemory> {
+pub(crate) fn test_root(alloc: Global, instance: &Instance) -> Result<Root, NoMemory> {
     match first_too_large(instance) {
         Some((v, dim)) => Ok(Root::Leaf(Token::TooLarge {
             box_no: v + 1,
