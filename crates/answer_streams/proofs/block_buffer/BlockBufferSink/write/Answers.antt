@@ -1,7 +1,7 @@
 use Rattle.std.proofs.Common.{arith, take, ◌∙◌, ap}
 use Rattle.std.specs.Io.KnownBytes.{append_known}
 use Rattle.answer_streams.proofs.Blocks.{shown_put, on_ok}
-use Rattle.answer_streams.proofs.block_buffer.FrontSink.write.Goals as goal
+use Rattle.answer_streams.proofs.block_buffer.BlockBufferSink.write.Goals as goal
 
 pub returns-clause-moves : goal.returns-clause-moves
 returns-clause-moves g c =

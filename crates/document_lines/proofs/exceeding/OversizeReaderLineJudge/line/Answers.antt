@@ -2,7 +2,7 @@ use Rattle.std.proofs.Common.{◌∙◌, sym, ap}
 use Rattle.text_terms.specs.Feeding.{ended_line}
 use Rattle.document_lines.specs.Reading.{PlainJudge}
 use Rattle.document_lines.proofs.Exceeds.{exceeding_after}
-use Rattle.document_lines.proofs.exceeding.ExceedingReaderLineJudge.line.Goals as goal
+use Rattle.document_lines.proofs.exceeding.OversizeReaderLineJudge.line.Goals as goal
 
 pub returns-in-Ok-clause-judges : goal.returns-in-Ok-clause-judges
 returns-in-Ok-clause-judges c =

@@ -5,7 +5,7 @@ use Rattle.work_share.specs.Outcomes.{plain_outcome}
 use Rattle.class_search.specs.Kept.{IsWalkOf}
 use Rattle.class_search.specs.Tree.{PlainClassTree, shape}
 use Rattle.class_search.proofs.Pieces.{explored_left, explored_told}
-use Rattle.class_search.proofs.keeping.KeepingTreeTree.explore.Goals as goal
+use Rattle.class_search.proofs.keeping.ResumableTreeTree.explore.Goals as goal
 
 pub keep-requires-clause-known : goal.keep-requires-clause-known
 keep-requires-clause-known c =

@@ -3,7 +3,7 @@ use Rattle.tree_terms.specs.Trees.{node_at}
 use Rattle.tree_terms.specs.Paths.{node_view, IsReachable}
 use Rattle.work_share.specs.Nodes.{plain_node}
 use Rattle.class_search.specs.Tree.{PlainClassTree, shape}
-use Rattle.class_search.proofs.keeping.KeepingTreeTree.node.Goals as goal
+use Rattle.class_search.proofs.keeping.ResumableTreeTree.node.Goals as goal
 
 pub node-requires : goal.node-requires
 node-requires c = subst (λ (t : PlainClassTree). IsReachable (shape t) c.args.path.now) (sym c.self.view_is) c.requires
