@@ -24,11 +24,14 @@ const TREE_STEPS_OF_SMALL: u64 = 2_000;
 
 const TREE_STEPS_OF_MORE: u64 = 960;
 
-// The steps of swaps: as many in any case, and for each branching. With 60 boxes in two dimensions
-// these are 1 batch for a budget of 0, 26 for 10,000 and 96 for 1,000,000. Over 32 strips of 17 to
-// 100 boxes the mean gap to what scales refute is 2.4 % after the batches of a budget of 0 (1.9 %
-// with twice the steps, which take up to 0.2 s), and 1.6 % after those of 10,000.
-const SWAP_STEPS: u64 = 1_500_000;
+// The steps of swaps for each branching, and in any case: for boxes in a container and sets worth
+// much, and for low packings. With 60 boxes in two dimensions the low ones have 1 batch for a budget
+// of 0, 26 for 10,000 and 96 for 1,000,000. Over 32 strips of 17 to 100 boxes the mean gap to what
+// scales refute is 2.4 % after the batches of a budget of 0 (1.9 % with twice the steps, which take
+// up to 0.2 s), and 1.6 % after those of 10,000.
+const SWAP_STEPS: u64 = 3_000_000;
+
+const LOW_SWAP_STEPS: u64 = 1_500_000;
 
 const SWAP_STEPS_OF_SMALL: u64 = 3_500;
 
@@ -93,9 +96,10 @@ pub(crate) fn splits_within(instance: &Instance, steps: u64) -> u64 {
     steps / SPLIT_COST / branching_steps(instance).max(1)
 }
 
-// The steps that swaps may take under a budget, of which each further branching pays for `more`.
-fn swap_steps(budget: u64, more: u64) -> u64 {
-    steps_of(budget, SWAP_STEPS_OF_SMALL, more).saturating_add(SWAP_STEPS)
+// The steps that swaps may take under a budget: `least` in any case, and each further branching pays
+// for `more`.
+fn swap_steps(budget: u64, least: u64, more: u64) -> u64 {
+    steps_of(budget, SWAP_STEPS_OF_SMALL, more).saturating_add(least)
 }
 
 // The steps that a batch of rounds of swaps takes.
@@ -115,7 +119,7 @@ pub(crate) fn swap_batches(instance: &Instance, budget: u64) -> u64 {
     } else {
         (DEEP_SWAP_STEPS_OF_MORE, MOST_DEEP_BATCHES)
     };
-    (swap_steps(budget, more) / batch_steps(instance).max(1)).min(most)
+    (swap_steps(budget, LOW_SWAP_STEPS, more) / batch_steps(instance).max(1)).min(most)
 }
 
 /// The batches of rounds of swaps for a packing in the container under a budget, at most 64.
@@ -125,7 +129,7 @@ pub(crate) fn packing_batches(instance: &Instance, budget: u64) -> u64 {
     } else {
         0
     };
-    let steps = swap_steps(budget, SWAP_STEPS_OF_MORE);
+    let steps = swap_steps(budget, SWAP_STEPS, SWAP_STEPS_OF_MORE);
     (steps.saturating_add(more) / batch_steps(instance).max(1)).min(MOST_PACKING_BATCHES)
 }
 
@@ -148,7 +152,7 @@ pub fn value_batches(instance: &Instance, budget: u64) -> u64 {
     } else {
         (DEEP_VALUE_BATCH_COST, MOST_DEEP_VALUE_BATCHES)
     };
-    let steps = swap_steps(budget, SWAP_STEPS_OF_MORE);
+    let steps = swap_steps(budget, SWAP_STEPS, SWAP_STEPS_OF_MORE);
     let batch = u64::from(instance.len()).saturating_mul(cost).max(1);
     (steps / batch).min(most)
 }
