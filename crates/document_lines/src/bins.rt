@@ -62,7 +62,7 @@ fn bin_reason(
         (bin_group instance.now bins.now places.now bin ∷ [])) }
 {
     // For the proof alone: states the limits of the instance.
-    let _most_boxes = instance.len();
+    let _max_boxes = instance.len();
     boxes_in(bins, bin, keep)?;
     if keep.is_empty() {
         return Ok(None);

@@ -50,7 +50,7 @@ fn places_reason(instance: &Instance, places: &[u32]) -> Option<Reason>
     requires { length places.now ≡ box_count instance.now * dims instance.now }
     ensures { result ≡ places_reason instance.now places.now }
 {
-    let (_most_boxes, _most_dims) = (instance.len(), instance.dims());
+    let (_max_boxes, _most_dims) = (instance.len(), instance.dims());
     match check_places(instance, places) {
         PlaceVerdict::Good => None,
         PlaceVerdict::Outside { box_no, dim } => Some(Reason::OutsideAt {

@@ -90,7 +90,7 @@ fn reason_of(
     ensures { IsReasonOf (taken_reason instance.now value taken.now places.now) result }
 {
     // For the proof alone: states the limits of the instance.
-    let _most_boxes = instance.len();
+    let _max_boxes = instance.len();
     if !taken.is_empty() {
         let Ok(set) = instance.subset(alloc, taken) else {
             return Err(LineStop::NoMemory);
