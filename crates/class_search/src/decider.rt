@@ -72,7 +72,8 @@ impl Decider {
         requires { self.old ≡ decider_of instance.now }
         ensures same { self.new ≡ self.old }
         ensures outcome { IfOk result
-            (λ r. plain_outcome r ≡ under_budget budget (outcome (class_tree instance.now [] scales))) }
+            (λ r. plain_outcome r
+            ≡ under_budget budget (outcome (class_tree instance.now [] scales))) }
         ensures right { IfOk result (λ r. IsRight instance.now [] (plain_outcome r)) }
         ensures decides { IfOk result (λ r. Decides instance.now (plain_outcome r)) }
         ensures enough { 3 ^ (dims instance.now * box_count instance.now

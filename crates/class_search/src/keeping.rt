@@ -158,8 +158,8 @@ impl<'a> Model for ResumableTree<'a> {
 // less time than `MAX_LOCK_TRIES` tries.
 const MAX_LOCK_TRIES: u32 = 10_000;
 
-// Tries to lock a list, at most `MAX_LOCK_TRIES` times. It never blocks, because `Tree::explore` has no
-// runtime handle with `Wait`.
+// Tries to lock a list, at most `MAX_LOCK_TRIES` times. It never blocks, because `Tree::explore` has
+// no runtime handle with `Wait`.
 fn try_lock_pieces<'b, T>(room: &'b Mutex<Vec<T>>) -> Option<MutexGuard<'b, Vec<T>>> {
     for _ in 0..MAX_LOCK_TRIES {
         if let Some(guard) = room.try_lock() {

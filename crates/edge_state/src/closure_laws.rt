@@ -62,7 +62,8 @@ pub fn settled_lists_are_stable()
         → i < dims instance → IsUpToDate instance es es
         → IsTransitive (box_count instance) (IsSurelyBefore (excludes es) i) }
     ensures stable { (instance : PlainInstance) (es : List PlainExclusion)
-        → IsUpToDate instance es es → ((i : ℕ) → i < dims instance → IsChainUpToDate instance i es es)
+        → IsUpToDate instance es es
+        → ((i : ℕ) → i < dims instance → IsChainUpToDate instance i es es)
         → IsStable instance (excludes es) }
 {}
 

@@ -10,9 +10,10 @@ mod reduced_laws;
 
 pub use laws::{
     class_tree_decides, class_tree_is_a_search, closures_are_stable, counts_are_bounded,
-    joining_verdicts, nodes_are_told, outer_answers_are_of_their_sets, outer_searches_are_right,
-    outer_trees_are_searches, outer_trees_decide, searches_are_right, settled_places_are_a_packing,
-    subtrees_are_at_paths, told_under_a_budget, trees_depend_on_the_closure,
+    joining_verdicts, nodes_show_their_children, outcomes_under_a_budget,
+    outer_answers_are_of_their_sets, outer_searches_are_right, outer_trees_are_searches,
+    outer_trees_decide, searches_are_right, settled_places_are_a_packing, subtrees_are_at_paths,
+    trees_depend_on_the_closure,
 };
 pub use level_laws::{
     first_levels_are_right, optima_are_there_exactly, run_of_levels, runs_are_spent_exactly,

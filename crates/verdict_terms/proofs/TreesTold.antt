@@ -144,10 +144,10 @@ pub record TreeTold (claim told : Claim) (tree : Tree) (lines : List (List (List
   pub whole : is_whole left ≡ true
   pub same : claim ≡ told
 
-pub tree_outcome : (claim told : Claim) (tree : Tree) (lines : List (List (List ℕ)))
+pub tree_claimed : (claim told : Claim) (tree : Tree) (lines : List (List (List ℕ)))
     → read_words (Refuting claim tree) lines ≡ Ok told → TreeTold claim told tree lines
-tree_outcome claim told tree [] e = absurd (cc (e))
-tree_outcome claim told tree (words ∷ lines) e =
+tree_claimed claim told tree [] e = absurd (cc (e))
+tree_claimed claim told tree (words ∷ lines) e =
     let b = bind_ok (tree_line claim tree words) (λ next. read_words next lines) told e in
     let t = bind_ok (tree_token (is_word (codes "end") words) (token_of (tree_dims tree) words))
     (λ t. coded (tree_after tree t) >>= λ more. Ok (grown_tree claim more)) b.0 b.1 in
@@ -155,7 +155,7 @@ tree_outcome claim told tree (words ∷ lines) e =
     let after : tree_after tree t.0 ≡ Ok m.0 = coded_ok (tree_after tree t.0) m.0 m.1 in
     go t.0 m.0 (token_ok _ _ t.0 t.1) after (is_whole m.0) refl
     (subst (λ s. read_words s lines ≡ Ok told) (sym (ok_is (grown_tree claim m.0) b.0 m.2)) b.2)
-    (λ r. tree_outcome claim told m.0 lines r)
+    (λ r. tree_claimed claim told m.0 lines r)
   where
     go : (t : PlainToken) (next : Tree) → token_of (tree_dims tree) words ≡ Some t → tree_after tree t ≡ Ok next
         → (w : Bool) → is_whole next ≡ w
@@ -205,7 +205,7 @@ pub refuting_told : (claim told : Claim) (refuted : Refuted) (lines : List (List
     → read_words (Refuting claim (begun refuted)) lines ≡ Ok told
     → RefutingTold claim told refuted lines
 refuting_told claim told refuted lines e =
-    let t = tree_outcome claim told (begun refuted) lines e in record {
+    let t = tree_claimed claim told (begun refuted) lines e in record {
       body = t.body;
       are = t.are;
       refuting = record {

@@ -12,6 +12,6 @@ returns-clause-answer g c =
     let none = open_is (excludes c.args.self.now.trail c.args.dim c.args.u c.args.v c.args.rel) _ c.allows.ensures
     c.if-not-allows.false in
     let has = rw c.take.ensures at c.mask_in-2.ensures in
-    rw c.told-2.ensures.value
+    rw c.empty_or-2.ensures.value
     (told_new c.args.self.now.trail (exclusion_at c.args.dim c.args.u c.args.v c.args.rel) _
-    c.told-2.ensures.limit has none)
+    c.empty_or-2.ensures.limit has none)

@@ -3,4 +3,4 @@ use Rattle.rule_closure.proofs.closer.Closer.close.Goals as goal
 
 pub returns-clause-closed : goal.returns-clause-closed
 returns-clause-closed c = closed_ended _ _ _ _ _ c.close_all-is_empty.ensures.extends c.close_all-is_empty.ensures.ended
-    c.told.ensures
+    c.outcome_of.ensures

@@ -1,4 +1,4 @@
-use Rattle.tree_terms.proofs.laws.told_under_a_budget.Goals as goal
+use Rattle.tree_terms.proofs.laws.outcomes_under_a_budget.Goals as goal
 use Rattle.tree_terms.proofs.Told.{told_past, told_decided}
 
 pub returns-clause-past : goal.returns-clause-past

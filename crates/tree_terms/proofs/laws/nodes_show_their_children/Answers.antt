@@ -1,5 +1,5 @@
 use Rattle.tree_terms.proofs.Reached.{told_split, past_own, root_reached, reached_next}
-use Rattle.tree_terms.proofs.laws.nodes_are_told.Goals as goal
+use Rattle.tree_terms.proofs.laws.nodes_show_their_children.Goals as goal
 
 pub returns-clause-split : goal.returns-clause-split
 returns-clause-split c = told_split
