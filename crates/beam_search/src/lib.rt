@@ -4,6 +4,7 @@
 #![tactic(auto)]
 
 mod beam;
+mod beam_growth;
 mod beam_guides;
 mod beam_levels;
 mod beams;

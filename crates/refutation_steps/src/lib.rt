@@ -6,6 +6,7 @@ mod chain_steps;
 mod chains;
 mod closings;
 mod empties;
+mod explaining;
 mod facts;
 mod finding;
 mod heaviest;

@@ -1,14 +1,14 @@
 //! Closings that are traced back: what later lines need of what a closing excluded, and why.
 ghost use Rattle.std.specs.Prelude.{◌≤◌, length};
 
+use crate::explaining::explain_at;
 use crate::facts::{Facts, first_facts};
-use crate::finding::{Found, Sought, find_chains, find_plain};
+use crate::finding::{Sought, find_plain};
 use crate::heaviest::{Weights, first_weights};
 use crate::marks::{
     AFTER, ALL, BEFORE, Marked, Marks, OVERLAP, Spot, as_marked, at_place, bits_there, has_all,
     turned_spot,
 };
-use crate::reasons::need_reason;
 use crate::short_reasons::ShortReason;
 use box_instances::{Instance, NoMemory};
 use edge_state::{EdgeState, Mark};
@@ -35,13 +35,14 @@ struct Open {
 }
 
 /// What is excluded on the way to a node, the oldest first, with what of it is needed, and what else
-/// the closing that is taken excludes; the nodes on that way; and the reasons of those that were left, by token.
+/// the closing that is taken excludes; the nodes on that way; and the reasons of those that were
+/// left, by token.
 #[derive(Drop)]
 pub struct Trace {
-    facts: Facts,
-    needs: Marks,
+    pub(crate) facts: Facts,
+    pub(crate) needs: Marks,
     coming: Marks,
-    weights: Weights,
+    pub(crate) weights: Weights,
     trail: Vec<Marked>,
     clash: Option<Spot>,
     open: Vec<Open>,
@@ -133,90 +134,6 @@ fn pop_with(trace: &mut Trace, begun: usize, at: Spot) -> u8 {
         pop_change(trace);
     }
     bits
-}
-
-// What the needs of later lines want at a place, of these relations; it is wanted no longer.
-fn take_wanted(trace: &mut Trace, at: Spot, came: u8) -> u8 {
-    let wanted = trace.needs.at(at) & came;
-    trace.needs.change(at, 0, wanted);
-    wanted
-}
-
-// A reason for just this.
-fn find_exactly(trace: &mut Trace, sought: Sought) -> Result<Option<Found>, NoMemory> {
-    if let Some(plain) = find_plain(&trace.facts, &trace.needs, sought) {
-        return Ok(Some(plain));
-    }
-    find_chains(&trace.facts, &mut trace.weights, &mut trace.boxes, sought)
-}
-
-// A reason for something of what is wanted at a place, for all of it where there is one.
-fn find_some(trace: &mut Trace, sought: Sought) -> Result<Option<Found>, NoMemory> {
-    for bits in [ALL, BEFORE, AFTER, OVERLAP] {
-        let wanted = sought.wanted & bits;
-        if wanted != 0 {
-            let part = Sought { wanted, ..sought };
-            let found = find_exactly(trace, part)?;
-            if found.is_some() {
-                return Ok(found);
-            }
-        }
-    }
-    Ok(None)
-}
-
-// A reason more, with what it needs. One that has no short form has boxes of a chain at a position
-// that no memory of today holds, so that is want of memory.
-fn push_found(trace: &mut Trace, found: Option<Found>, wanted: u8) -> Result<(), NoMemory> {
-    let Some(Found { reason, bits }) = found else {
-        return Ok(());
-    };
-    let boxes = trace.boxes.as_slice();
-    need_reason(&trace.facts, &mut trace.needs, boxes, reason, bits & wanted);
-    let Some(short) = ShortReason::of(reason) else {
-        return Err(NoMemory);
-    };
-    let Ok(()) = trace.reasons.push(short) else {
-        return Err(NoMemory);
-    };
-    Ok(())
-}
-
-// The same for what is left, where something is.
-fn find_left(trace: &mut Trace, sought: Sought, wanted: u8) -> Result<Option<Found>, NoMemory> {
-    if wanted == 0 {
-        return Ok(None);
-    }
-    find_some(trace, Sought { wanted, ..sought })
-}
-
-// What is still wanted.
-fn left_of(wanted: u8, found: Option<Found>) -> u8 {
-    match found {
-        Some(found) => wanted & !found.bits,
-        None => wanted,
-    }
-}
-
-// Reasons for what is wanted at a place, where these relations came one after another. What a later
-// reason is for an earlier one doesn't exclude, so it comes behind it in the lines; here the last
-// one is first.
-fn explain_at(trace: &mut Trace, at: Spot, came: u8) -> Result<(), NoMemory> {
-    let wanted = take_wanted(trace, at, came);
-    let allowed = trace.facts.excluded.at(at) | came;
-    let sought = Sought {
-        at,
-        wanted,
-        allowed,
-    };
-    let first = find_left(trace, sought, wanted)?;
-    let left = left_of(wanted, first);
-    let second = find_left(trace, sought, left)?;
-    let last = left_of(left, second);
-    let third = find_left(trace, sought, last)?;
-    push_found(trace, third, last)?;
-    push_found(trace, second, left)?;
-    push_found(trace, first, wanted)
 }
 
 // Traces back the newest exclusions at one place, of those that a closing added behind the first
