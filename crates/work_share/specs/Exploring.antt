@@ -11,10 +11,10 @@ use Rattle.work_share.specs.Tasks.{is_past}
 use Rattle.work_share.specs.declared.exploring.Found.{Found}
 use Rattle.work_share.specs.declared.exploring.Found.TheVariants.{Whole, Pieces}
 
--- The cap under which a task of this depth is explored first: 1,024 at the root, 64 more with each
+-- The cap under which a task of this depth is explored first: 1,024 at the root, 8 more with each
 -- step down, and the square of the steps below depth 512, but never more than the budget.
 abbrev pub first_cap : ℕ → ℕ → ℕ
-first_cap budget depth = min budget (1024 + 64 * depth + (depth - 512) * (depth - 512))
+first_cap budget depth = min budget (1024 + 8 * depth + (depth - 512) * (depth - 512))
 
 -- the count of the node exceeds the first cap, which is below the budget
 abbrev pub ExceedsCap : ℕ → ℕ → SearchTree → Type 0

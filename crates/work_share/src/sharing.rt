@@ -238,7 +238,7 @@ fn answer_of<T: Tree>(
 ///
 /// With one worker, or none, the calling thread explores alone, takes no lock and calls no gate.
 /// With more, of which 64 at most are used, the tree is cut into tasks, the first of which is the
-/// root. A task is explored under a cap of 1,024 branchings, 64 more for each step down from the
+/// root. A task is explored under a cap of 1,024 branchings, 8 more for each step down from the
 /// root, and from 512 steps on the square of the further ones. If its count is greater, it is split,
 /// or explored again under the whole budget if its node is a leaf. The calling thread explores the
 /// root; threads are started only where that leaves tasks. The gate is called before and after the
