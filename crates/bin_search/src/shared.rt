@@ -9,7 +9,7 @@ ghost use Rattle.bin_search.specs.Trees.{shape, same_trees};
 use crate::BinTree;
 use box_instances::NoMemory;
 use proof_tree::Outcome;
-use set_search::SetSearch;
+use set_search::{SetSearch, TASK_SET_BUDGET};
 use std::alloc::Global;
 use std::marker::Model;
 use std::sync::Wait;
@@ -52,7 +52,7 @@ impl<'a, 'b> Tree for PooledTree<'a, 'b> {
         ensures { IfOk result (λ r. IfSome (outcome_at (shape self.now) path.now)
             (λ v. plain_outcome r ≡ under_budget cap v)) }
     {
-        let mut search = self.search.take(alloc)?;
+        let mut search = self.search.take(alloc, TASK_SET_BUDGET)?;
         let outcome = self.tree.explore_node(alloc, &mut search, path, cap)?;
         self.search.give(search);
         Ok(outcome)
@@ -63,7 +63,7 @@ impl<'a, 'b> Tree for PooledTree<'a, 'b> {
         ensures { IfOk result (λ r. IfSome (node_at (Some (shape self.now)) path.now)
             (λ node. plain_node r ≡ node_view node)) }
     {
-        let mut search = self.search.take(alloc)?;
+        let mut search = self.search.take(alloc, TASK_SET_BUDGET)?;
         let node = self.tree.tell_node(alloc, &mut search, path)?;
         self.search.give(search);
         Ok(node)

@@ -20,8 +20,11 @@ const MAX_SETS: usize = 65_536;
 
 // The number of places at first. There are eight times as many where half of them have a set, so a
 // run of few sets touches little memory. A small memory has no more: it serves one worker, and all
-// 64 together hold as many sets as a memory that they share.
+// 64 together hold as many sets as those that they share.
 const FIRST_PLACES: usize = 1_024;
+
+// A shard is one of this many parts of the sets that workers share: together they hold `MAX_SETS`.
+pub(crate) const SHARDS: usize = 32;
 
 // A set stands at the place of its key, or at one of the next ones, `PROBE_LIMIT` places in all.
 // With one place for each key, sets whose keys agree would drive one another out, at each level
@@ -42,10 +45,11 @@ pub struct Entry {
 /// Decided sets with their outcomes. It is seen as its entries, in no order.
 ///
 /// A set has eight places by its key. Where other sets have all of them, it takes the first from an
-/// older one. So at most 65,536 sets are held, with at most 4,194,304 numbers and tokens together,
-/// and in a small memory 1,024 sets with 65,536, which forgets all of them when it is full. What
-/// would be more, and for what there is no memory, isn't kept. It takes no memory before the first
-/// set is kept.
+/// older one. So at most 65,536 sets are held, with at most 4,194,304 numbers and tokens together;
+/// in a shard 2,048 sets with 131,072; and in a small memory 1,024 sets with 65,536. The last two
+/// forget all of them when they are full: a task that is begun anew by its children asks for the
+/// sets that were decided last. What would be more, and for what there is no memory, isn't kept. It
+/// takes no memory before the first set is kept.
 #[derive(Drop)]
 pub struct SetCache {
     // The number of the entry at each place, from 1 on, and 0 where there is none.
@@ -53,6 +57,7 @@ pub struct SetCache {
     entries: Vec<Entry>,
     kept: usize,
     most_places: usize,
+    forgets: bool,
 }
 
 impl Model for SetCache {
@@ -75,28 +80,38 @@ impl Entry {
 }
 
 impl SetCache {
-    /// A memory of no set.
-    pub fn new(alloc: Global) -> SetCache
+    // A memory of no set, with this many places at most.
+    fn of_places(alloc: Global, most_places: usize, forgets: bool) -> SetCache
         ensures { result ≡ [] }
     {
         SetCache {
             places: Vec::new(alloc),
             entries: Vec::new(alloc),
             kept: 0,
-            most_places: MAX_SETS,
+            most_places,
+            forgets,
         }
+    }
+
+    /// A memory of no set.
+    pub fn new(alloc: Global) -> SetCache
+        ensures { result ≡ [] }
+    {
+        SetCache::of_places(alloc, MAX_SETS, false)
+    }
+
+    /// A shard of no set.
+    pub fn shard(alloc: Global) -> SetCache
+        ensures { result ≡ [] }
+    {
+        SetCache::of_places(alloc, MAX_SETS / SHARDS, true)
     }
 
     /// A small memory of no set.
     pub fn small(alloc: Global) -> SetCache
         ensures { result ≡ [] }
     {
-        SetCache {
-            places: Vec::new(alloc),
-            entries: Vec::new(alloc),
-            kept: 0,
-            most_places: FIRST_PLACES,
-        }
+        SetCache::of_places(alloc, FIRST_PLACES, true)
     }
 
     /// Whether an outcome would be more than the memory holds.
@@ -232,7 +247,10 @@ impl SetCache {
         if count >= self.most_places || self.entries.len() < count / 2 {
             return true;
         }
-        let wanted = count.saturating_mul(8).max(FIRST_PLACES).min(MAX_SETS);
+        let wanted = count
+            .saturating_mul(8)
+            .max(FIRST_PLACES)
+            .min(self.most_places);
         let Ok(places) = vec![in alloc; 0; wanted] else {
             return count > 0;
         };
@@ -300,12 +318,12 @@ impl SetCache {
         }
     }
 
-    // Forgets all sets of a small memory that is full for an outcome.
+    // Forgets all sets of a small memory or a shard that is full for an outcome.
     fn make_room(&mut self, alloc: Global, outcome: &Outcome)
         ensures { (self.new ≡ self.old) ⊎ (self.new ≡ []) }
     {
-        if self.most_places < MAX_SETS && self.is_full_for(outcome) {
-            *self = SetCache::small(alloc);
+        if self.forgets && self.is_full_for(outcome) {
+            *self = SetCache::of_places(alloc, self.most_places, true);
         }
     }
 

@@ -4,6 +4,7 @@ ghost use Rattle.std.specs.List.{All};
 ghost use Rattle.edge_state.specs.BitRows.{row_has};
 ghost use Rattle.set_search.specs.Memories.{HasBoxes};
 
+use crate::cache::SHARDS;
 use edge_state::BitRow;
 
 /// A set of boxes as bits, with a number that is the same for the same set.
@@ -71,5 +72,10 @@ impl SetKey {
         ensures { result < 65536 }
     {
         (self.hash >> 48) as usize
+    }
+
+    // The number of the shard that the set belongs to: the bits below those of its place.
+    pub(crate) fn shard(&self) -> usize {
+        (self.hash >> 43) as usize % SHARDS
     }
 }

@@ -46,6 +46,17 @@ impl<'a> KnownSets<'a> {
         }
     }
 
+    // No set of an instance, in a shard of the sets that workers share.
+    pub(crate) fn shard(alloc: Global, whole: &'a Instance, scales: bool) -> KnownSets<'a>
+        ensures { result ≡ record { instance = whole.now; scales = scales } }
+    {
+        KnownSets {
+            whole,
+            scales,
+            memory: SetCache::shard(alloc),
+        }
+    }
+
     // No set of an instance, with a small memory, which forgets its sets when it is full.
     pub(crate) fn small(alloc: Global, whole: &'a Instance, scales: bool) -> KnownSets<'a>
         ensures { result ≡ record { instance = whole.now; scales = scales } }

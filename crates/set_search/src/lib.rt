@@ -16,4 +16,4 @@ mod shared;
 pub use answer::push_coordinates;
 pub use child::Child;
 pub use insert::{put_box, with_box};
-pub use search::{MAX_BUDGET, SetSearch};
+pub use search::{MAX_BUDGET, SetSearch, TASK_SET_BUDGET};

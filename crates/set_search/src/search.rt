@@ -29,13 +29,11 @@ use std::sync::Arc;
 /// The greatest budget.
 pub const MAX_BUDGET: u64 = 10_000_000;
 
-// A task decides a set under `PROBE_LIMIT` times the branchings that it has left, since its
-// children come to the set again, and would begin it anew.
-const PROBE_LIMIT: u64 = 8;
-
-// But under no more than `MOST_REACH`, if it has less left. Of the refuted sets of two knapsacks of
-// 30 and 36 boxes, one of 5,000 has more.
-const MOST_REACH: u64 = 8_192;
+/// The least budget under which a task of several workers decides a set, even if it has less left:
+/// its children come to the set again, and would begin it anew. Of the refuted sets of two
+/// knapsacks of 30 and 36 boxes, one of 5,000 has more branchings. With eight times what the task
+/// had left in its place, four workers took 1.8 in place of 1.5 times the processor time of one.
+pub const TASK_SET_BUDGET: u64 = 8_192;
 
 // Where a set is kept: among the sets of a search, among those that it shares, or nowhere.
 #[derive(Clone, Copy)]
@@ -71,6 +69,8 @@ pub struct SetSearch<'a> {
     // What the searches of tasks have decided.
     shared: Arc<SharedSets<'a>, Global>,
     is_of_task: bool,
+    // Each set is decided under at least this budget.
+    set_budget: u64,
     // Room for a set with one box more, which goes out with a set that fits.
     spare: Vec<u32>,
     // The searches of tasks that are done.
@@ -111,14 +111,6 @@ fn ensure_closers(
     Ok(())
 }
 
-// The budget under which a task decides a set that it asks for under this one.
-fn reach_of(budget: u64) -> u64
-    ensures { budget ≤ result }
-{
-    let reach = budget.saturating_mul(PROBE_LIMIT).min(MOST_REACH);
-    if reach < budget { budget } else { reach }
-}
-
 impl<'a> SetSearch<'a> {
     /// The decisions of sets of the boxes of an instance, with conservative scales or without.
     pub fn new(
@@ -128,19 +120,19 @@ impl<'a> SetSearch<'a> {
     ) -> Result<SetSearch<'a>, NoMemory>
         ensures { IfOk result (λ s. s ≡ record { instance = instance.now; scales = scales }) }
     {
-        let known = SharedSets::new(alloc, instance, scales);
+        let known = SharedSets::new(alloc, instance, scales)?;
         let Ok(shared) = Arc::new(alloc, known) else {
             return Err(NoMemory);
         };
         let own = KnownSets::new(alloc, instance, scales);
         let idle = IdleSearch::new(alloc, instance, scales, own, shared)?;
-        let mut search = SetSearch::of_idle(alloc, idle);
+        let mut search = SetSearch::of_idle(alloc, idle, 0);
         search.is_of_task = false;
         Ok(search)
     }
 
     // The search of a task, which goes on with these parts. Its own pool is empty.
-    fn of_idle(alloc: Global, idle: IdleSearch<'a>) -> SetSearch<'a>
+    fn of_idle(alloc: Global, idle: IdleSearch<'a>, set_budget: u64) -> SetSearch<'a>
         ensures { result ≡ idle.entry }
     {
         SetSearch {
@@ -152,6 +144,7 @@ impl<'a> SetSearch<'a> {
             closers: idle.closers,
             shared: idle.shared,
             is_of_task: true,
+            set_budget,
             spare: idle.spare,
             pool: SearchPool::new(alloc),
         }
@@ -172,19 +165,20 @@ impl<'a> SetSearch<'a> {
     }
 
     /// Returns a search of the same sets for a task: one of the pool, or else a new one. It knows
-    /// what the searches of other tasks have decided.
-    pub fn take(&self, alloc: Global) -> Result<SetSearch<'a>, NoMemory>
+    /// what the searches of other tasks have decided, and it decides each set under at least
+    /// `set_budget`, so that more is known of it when it comes again.
+    pub fn take(&self, alloc: Global, set_budget: u64) -> Result<SetSearch<'a>, NoMemory>
         ensures { IfOk result (λ s. s ≡ self.now) }
     {
         if let Some(idle) = self.pool.take(self.whole, self.scales) {
-            return Ok(SetSearch::of_idle(alloc, idle));
+            return Ok(SetSearch::of_idle(alloc, idle, set_budget));
         }
         let Ok(shared) = Arc::try_clone(&self.shared) else {
             return Err(NoMemory);
         };
         let own = KnownSets::small(alloc, self.whole, self.scales);
         let idle = IdleSearch::new(alloc, self.whole, self.scales, own, shared)?;
-        Ok(SetSearch::of_idle(alloc, idle))
+        Ok(SetSearch::of_idle(alloc, idle, set_budget))
     }
 
     /// Puts the search of a task into the pool, where at most 64 of them wait. It is dropped
@@ -238,11 +232,7 @@ impl<'a> SetSearch<'a> {
     fn reach_of(&self, budget: u64) -> u64
         ensures { budget ≤ result }
     {
-        if self.is_of_task {
-            reach_of(budget)
-        } else {
-            budget
-        }
+        budget.max(self.set_budget)
     }
 
     // Where the set of a key is kept. The search of a task copies it to its own sets first.
