@@ -1,5 +1,5 @@
-//! The documents that answer `strip` by what their trees begin with, in their one written spelling. Writing
-//! takes no memory.
+//! The documents that answer `strip` by what their trees begin with, in their one written spelling.
+//! Writing takes no memory.
 ghost use Rattle.std.specs.Prelude.{◌≡◌, ◌<◌, ◌*◌, length};
 ghost use Rattle.packing_terms.specs.Packing.{dims, box_count};
 ghost use Rattle.packing_terms.specs.Limits.{IsInstance};

@@ -12,8 +12,8 @@ use bounded_tokens::BoundedToken;
 use box_instances::{Instance, NoMemory};
 use std::alloc::Global;
 
-// The value above the placed one has the steps that are left but for a third of them: it alone closes
-// the gap.
+// The value above the placed one has the steps that are left but for a third of them: it alone
+// closes the gap.
 const REST_PART: u64 = 3;
 
 // Any other goal has an eighth, and one of levels that are far apart a sixteenth.

@@ -4,8 +4,8 @@ use bounded_proposals::BoundedEffort;
 use bounded_search::TreeLimits;
 
 // Steps of proposed trees for each branching of the budget: the default budget of 1,000,000 allows
-// 200,000,000 steps of 30 to 60 nanoseconds, some 8 s. With 250 for each branching the same 33 of 62
-// instances were closed, and the longest run took half as much time again.
+// 200,000,000 steps of 30 to 60 nanoseconds, some 8 s. With 250 for each branching the same 33 of
+// 62 instances were closed, and the longest run took half as much time again.
 const STEPS_PER_BRANCHING: u64 = 200;
 
 // The fewest steps, which take 2 ms, and the most.
@@ -20,9 +20,9 @@ const MAX_TOKENS: u64 = 660_000;
 // The most splits for a set that grew.
 const GROWN_SPLITS: u64 = 60;
 
-// The most splits for a set that is worth the goal. Such a set decides the goal, so the steps of the
-// goal alone bound them: with at most 20,000, five of 62 instances stay open whose trees have 50,000
-// to 300,000 tokens.
+// The most splits for a set that is worth the goal. Such a set decides the goal, so the steps of
+// the goal alone bound them: with at most 20,000, five of 62 instances stay open whose trees have
+// 50,000 to 300,000 tokens.
 const REACHED_SPLITS: u64 = 1_000_000;
 
 /// The steps of all proposed trees of a run.

@@ -33,8 +33,8 @@ fn behind_trees<R: Threads + Wait + Sync, G: Gate + Sync>(
     search.narrow(alloc, instance, near)
 }
 
-// Behind proposals. The value above the proposed boxes is asked first: most often it is refuted, and
-// then no choice tree is needed.
+// Behind proposals. The value above the proposed boxes is asked first: most often it is refuted,
+// and then no choice tree is needed.
 fn behind_proposals<R: Threads + Wait + Sync, G: Gate + Sync>(
     rt: &R,
     alloc: Global,

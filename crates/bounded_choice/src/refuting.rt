@@ -9,8 +9,8 @@ use box_instances::{Instance, NoMemory};
 use outer_check::{Goal, OuterRefuter};
 use std::alloc::Global;
 
-/// Whether tokens are a bounded refutation of a value: no set of boxes that fits in the container is
-/// worth `goal` or more.
+/// Whether tokens are a bounded refutation of a value: no set of boxes that fits in the container
+/// is worth `goal` or more.
 pub fn is_bounded_refutation(
     alloc: Global,
     instance: &Instance,

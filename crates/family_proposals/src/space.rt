@@ -27,7 +27,8 @@ fn closed_root(alloc: Global, instance: &Instance) -> Result<Root, NoMemory> {
     }
 }
 
-/// The root of an instance: a box that is longer than the container, else what its closure comes to.
+/// The root of an instance: a box that is longer than the container, else what its closure comes
+/// to.
 pub(crate) fn test_root(alloc: Global, instance: &Instance) -> Result<Root, NoMemory> {
     match first_too_large(instance) {
         Some((v, dim)) => Ok(Root::Leaf(Token::TooLarge {

@@ -97,8 +97,8 @@ fn verdict_on(alloc: Global, bytes: &[u8]) -> Result<AuditedVerdict, NoMemory>
     }
 }
 
-// The verdict on a bounded document of `job`, of which `count` bytes were taken, up to the line feed
-// of its heading. The rest is read line by line.
+// The verdict on a bounded document of `job`, of which `count` bytes were taken, up to the line
+// feed of its heading. The rest is read line by line.
 fn read_bounded<S: Source>(
     alloc: Global,
     job: SolvingJob,

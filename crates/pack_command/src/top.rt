@@ -164,8 +164,8 @@ pub fn run<R: Threads + Wait + Sync, S: Source, K: Sink, E: Sink, G: Gate + Sync
     // there is none, or between two heights with both certificates, only where the class trees of
     // both heights beside the two have more branchings than the share of the budget (`level_share`:
     // all of a budget up to 2,000, else 2,000, or a 500th where that is more). `knapsack` is the
-    // same of values and their choice trees, with the greatest for the least, and never none; `bins`
-    // of numbers of bins and their bin trees, with the whole budget for the share.
+    // same of values and their choice trees, with the greatest for the least, and never none;
+    // `bins` of numbers of bins and their bin trees, with the whole budget for the share.
     ensures proposals_sound { (job : PlainSolvingJob) (settings : PlainSettings)
         (instance : PlainInstance)
         → IsProposalRun words.now (S.left input.old) (Plain job) settings instance

@@ -13,8 +13,8 @@ use std::sync::Wait;
 use std::thread::Threads;
 use work_share::{Gate, Settings};
 
-/// Bounds of the least number of bins, narrowed until both numbers beside them stay undecided, or the
-/// two are neighbours.
+/// Bounds of the least number of bins, narrowed until both numbers beside them stay undecided, or
+/// the two are neighbours.
 pub(crate) fn narrow_bins<R: Threads + Wait + Sync, G: Gate + Sync>(
     rt: &R,
     alloc: Global,

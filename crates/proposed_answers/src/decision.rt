@@ -86,8 +86,8 @@ pub fn decide_with_proposal<R: Threads + Wait + Sync, G: Gate + Sync>(
     }
 }
 
-// The pair steps of the tree that comes before the search for a refutation: 100,000 branchings of 14
-// boxes, 50,000 of 20, some 0.3 s, where the search takes up to seconds.
+// The pair steps of the tree that comes before the search for a refutation: 100,000 branchings of
+// 14 boxes, 50,000 of 20, some 0.3 s, where the search takes up to seconds.
 const EARLY_STEPS: u64 = 20_000_000;
 
 // The settings of that tree.
@@ -131,8 +131,8 @@ fn decide_open<R: Threads + Wait + Sync, G: Gate + Sync>(
 }
 
 // Decides an instance by places, by the tree on a part of the budget, by a refutation, and by the
-// tree, in this order. The tree on a part of the budget is fast where it decides, and the search for
-// a refutation takes seconds where it finds none.
+// tree, in this order. The tree on a part of the budget is fast where it decides, and the search
+// for a refutation takes seconds where it finds none.
 fn decide_packed<R: Threads + Wait + Sync, G: Gate + Sync>(
     rt: &R,
     alloc: Global,
@@ -195,9 +195,9 @@ fn decide_in_order<R: Threads + Wait + Sync, G: Gate + Sync>(
     }
 }
 
-/// Whether an instance fits, by proposals and by the class tree under the budget: by the root of the
-/// tree, by proposed places, by the tree on a part of the budget, by a proposed refutation, and by
-/// the tree.
+/// Whether an instance fits, by proposals and by the class tree under the budget: by the root of
+/// the tree, by proposed places, by the tree on a part of the budget, by a proposed refutation, and
+/// by the tree.
 ///
 /// A yes comes only with a packing, and a no only with a refutation of the instance, which has no
 /// `v` line if the settings want no scales. `Past` comes only where the class tree has more

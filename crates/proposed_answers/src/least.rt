@@ -132,10 +132,10 @@ fn narrowed<R: Threads + Wait + Sync, G: Gate + Sync>(
 /// It begins at bounds that the first branchings of the bin trees give, whose roots the scale
 /// functions refute, and at proposed bins that pass their test. Each number of bins between is
 /// decided by its bin tree, from both ends on, with up to six times the branchings of the budget.
-/// `Between` comes only where the trees of both numbers beside the two have more branchings than the
-/// budget: the one above the refuted number and the one below the placed number. `NoneFits` comes exactly where a box is
-/// longer than the container, and names the first. Which packing, which refutation and how many
-/// numbers are decided isn't promised.
+/// `Between` comes only where the trees of both numbers beside the two have more branchings than
+/// the budget: the one above the refuted number and the one below the placed number. `NoneFits`
+/// comes exactly where a box is longer than the container, and names the first. Which packing,
+/// which refutation and how many numbers are decided isn't promised.
 pub fn least_bins_proposed<R: Threads + Wait + Sync, G: Gate + Sync>(
     rt: &R,
     alloc: Global,

@@ -1,5 +1,5 @@
-//! Answers by proposals first: whether boxes fit, and the least height, the least number of bins and
-//! the greatest value between bounds that are certified before any tree is searched. What is
+//! Answers by proposals first: whether boxes fit, and the least height, the least number of bins
+//! and the greatest value between bounds that are certified before any tree is searched. What is
 //! proposed is tested, and what is left open is decided by the described trees.
 #![tactic(auto)]
 

@@ -94,7 +94,8 @@ impl Purse {
         }
     }
 
-    /// The splits of a proposal, where the purse holds them and they are not too few, and else none.
+    /// The splits of a proposal, where the purse holds them and they are not too few, and else
+    /// none.
     pub(crate) fn splits(&self, instance: &Instance) -> u64 {
         if self.splits >= LEAST_SPLITS && steps_of_splits(instance, self.splits) <= self.left {
             self.splits

@@ -25,10 +25,10 @@ const TREE_STEPS_OF_SMALL: u64 = 2_000;
 const TREE_STEPS_OF_MORE: u64 = 960;
 
 // The steps of swaps for each branching, and in any case: for boxes in a container and sets worth
-// much, and for low packings. With 60 boxes in two dimensions the low ones have 1 batch for a budget
-// of 0, 26 for 10,000 and 96 for 1,000,000. Over 32 strips of 17 to 100 boxes the mean gap to what
-// scales refute is 2.4 % after the batches of a budget of 0 (1.9 % with twice the steps, which take
-// up to 0.2 s), and 1.6 % after those of 10,000.
+// much, and for low packings. With 60 boxes in two dimensions the low ones have 1 batch for a
+// budget of 0, 26 for 10,000 and 96 for 1,000,000. Over 32 strips of 17 to 100 boxes the mean gap
+// to what scales refute is 2.4 % after the batches of a budget of 0 (1.9 % with twice the steps,
+// which take up to 0.2 s), and 1.6 % after those of 10,000.
 const SWAP_STEPS: u64 = 3_000_000;
 
 const LOW_SWAP_STEPS: u64 = 1_500_000;
@@ -96,8 +96,8 @@ pub(crate) fn splits_within(instance: &Instance, steps: u64) -> u64 {
     steps / SPLIT_COST / branching_steps(instance).max(1)
 }
 
-// The steps that swaps may take under a budget: `least` in any case, and each further branching pays
-// for `more`.
+// The steps that swaps may take under a budget: `least` in any case, and each further branching
+// pays for `more`.
 fn swap_steps(budget: u64, least: u64, more: u64) -> u64 {
     steps_of(budget, SWAP_STEPS_OF_SMALL, more).saturating_add(least)
 }

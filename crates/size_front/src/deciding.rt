@@ -45,7 +45,8 @@ fn decide_sized<R: Threads + Wait + Sync, G: Gate + Sync>(
     requires { IfSome decider.old (λ d. d ≡ decider_of sized.now) }
     ensures same { decider.new ≡ decider.old }
     ensures outcome { IfOk result (λ r. plain_outcome r
-        ≡ under_budget settings.now.budget (outcome (class_tree sized.now [] settings.now.scales))) }
+        ≡ under_budget settings.now.budget
+        (outcome (class_tree sized.now [] settings.now.scales))) }
 {
     match decider {
         Some(own) => own.decide(alloc, sized, settings.budget, settings.scales),

@@ -53,7 +53,8 @@ fn decide_tall<R: Threads + Wait + Sync, G: Gate + Sync>(
     requires ready { IfSome decider.old (IsReadyFor tall.now start.now) }
     ensures same { decider.new ≡ decider.old }
     ensures outcome { IfOk result (λ r. plain_outcome r
-        ≡ under_budget settings.now.budget (outcome (class_tree tall.now start.now settings.now.scales))) }
+        ≡ under_budget settings.now.budget
+        (outcome (class_tree tall.now start.now settings.now.scales))) }
 {
     match decider {
         Some(own) => own.decide(alloc, tall, settings.budget, settings.scales),
@@ -80,7 +81,8 @@ pub(crate) fn decide_height<R: Threads + Wait + Sync, G: Gate + Sync>(
     requires ready { IfSome decider.old (IsReadyFor instance.now start.now) }
     ensures same { decider.new ≡ decider.old }
     ensures answer { IfOk result (λ r. plain_level r
-        ≡ height_answer_from start.now instance.now settings.now.budget settings.now.scales height) }
+        ≡ height_answer_from start.now instance.now
+        settings.now.budget settings.now.scales height) }
 {
     // For the proof alone: states the limits of the instance.
     let _limits = instance.len();
