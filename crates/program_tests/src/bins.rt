@@ -1,5 +1,7 @@
 //! Bins, each document whole.
-use program_runs::{PLANKS, Solved, has_128_boxes, is_solved};
+use crate::asked::has_128_boxes;
+use crate::rows::{Solved, is_solved};
+use crate::texts::PLANKS;
 use std::test::Fail;
 
 const LARGE: &[u8] = b"format 1\ncontainer 10 10\nbox 6 6\nbox 6 6\n";

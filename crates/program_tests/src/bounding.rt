@@ -1,8 +1,8 @@
 //! `knapsack` with priced leaves, each document whole.
-use program_runs::{
-    SACK, Solved, UNIT, ends, is_refused, is_solved, run_with_read_fault, stops_reading,
-    stops_writing, tells,
-};
+use crate::asked::{ends, is_refused, stops_reading, stops_writing, tells};
+use crate::rows::{Solved, is_solved};
+use crate::runs::run_with_read_fault;
+use crate::texts::{SACK, UNIT};
 use std::alloc::Global;
 use std::test::Fail;
 

@@ -1,5 +1,6 @@
 //! `strip` with families, each document whole.
-use program_runs::{Solved, is_refused, is_solved, stops_writing, tells};
+use crate::asked::{is_refused, stops_writing, tells};
+use crate::rows::{Solved, is_solved};
 use std::test::Fail;
 
 const BOARDS: &[u8] = b"format 1\ncontainer 10 9\nbox 6 2\nbox 6 2\nbox 6 2\nbox 6 2\n";

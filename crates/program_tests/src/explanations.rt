@@ -1,7 +1,7 @@
 //! Refutations that are explained, and documents that hold none.
-use program_runs::{
-    TWO_BOXES_FIT, ends, reads_all_and_prints, run_on, stops_reading, stops_writing, tells,
-};
+use crate::asked::{ends, reads_all_and_prints, stops_reading, stops_writing, tells};
+use crate::runs::run_on;
+use crate::texts::TWO_BOXES_FIT;
 use std::alloc::AllocGlobal;
 use std::sync::Wait;
 use std::test::Fail;

@@ -1,5 +1,6 @@
 //! The least sizes of two boxes, and what `front` refuses.
-use program_runs::{UNIT, ends, is_refused, stops_writing, writes};
+use crate::asked::{ends, is_refused, stops_writing, writes};
+use crate::texts::UNIT;
 use std::test::Fail;
 
 const PAIR: &[u8] = b"format 1\ncontainer 4 4\nbox 2 1\nbox 2 1\n";

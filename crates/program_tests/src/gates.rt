@@ -1,5 +1,6 @@
 //! Tasks are explored at the same time: one is held until another was explored.
-use program_runs::{EIGHT_IN_A_ROW, matches_one_worker};
+use crate::asked::matches_one_worker;
+use crate::texts::{EIGHT_IN_A_ROW, NINE_IN_A_ROW};
 use std::alloc::AllocGlobal;
 use std::sync::Wait;
 use std::sync::atomic::{AtomicBool, Ordering};
@@ -55,15 +56,16 @@ impl Gate for Holding {
     }
 }
 
-// A job, the task that is held, and the one that is awaited. Two tasks wait at once: the root of
-// `fit`, of `strip` at height 6 and of `knapsack` at value 8 passes its cap, so that it is split
-// into the tasks 1 and 2; so does the only child of the root of `bins` at 4 bins, since eight boxes
-// in one bin have 5,039 branchings, and it is split into the tasks 2 and 3.
-const CASES: [(&str, u64, u64); 4] = [
-    ("fit", 1, 2),
-    ("strip", 1, 2),
-    ("bins", 2, 3),
-    ("knapsack", 1, 2),
+// A job with its text, the task that is held, and the one that is awaited. Two tasks wait at once:
+// the root of `fit`, of `strip` at height 6 and of `knapsack` at value 8 passes its cap, so that it
+// is split into the tasks 1 and 2; so does the only child of the root of `bins` at 4 bins, since
+// eight boxes in one bin have 5,039 branchings, and it is split into the tasks 2 and 3. The tree of
+// `knapsack` has more than the 16,384 branchings that one worker explores alone.
+const CASES: [(&str, &[u8], u64, u64); 4] = [
+    ("fit", EIGHT_IN_A_ROW, 1, 2),
+    ("strip", EIGHT_IN_A_ROW, 1, 2),
+    ("bins", EIGHT_IN_A_ROW, 2, 3),
+    ("knapsack", NINE_IN_A_ROW, 1, 2),
 ];
 
 // Whether two workers explored the awaited task while the other one was held, and wrote what one
@@ -71,17 +73,18 @@ const CASES: [(&str, u64, u64); 4] = [
 fn is_explored_beside<R: AllocGlobal + Threads + Wait + Sync>(
     rt: &R,
     job: &str,
+    text: &[u8],
     gate: &Holding,
 ) -> Result<bool, Fail> {
-    let is_same = matches_one_worker(rt, &[job, "--scales", "no"], "2", EIGHT_IN_A_ROW, gate)?;
+    let is_same = matches_one_worker(rt, &[job, "--scales", "no"], "2", text, gate)?;
     Ok(is_same && gate.is_passed())
 }
 
 #[test]
 fn workers_explore_at_the_same_time(rt: HostRuntime) -> Result<(), Fail> {
-    for (job, held, awaited) in CASES {
+    for (job, text, held, awaited) in CASES {
         assert!(rt;
-            is_explored_beside(&rt, job, &Holding::new(held, awaited))?,
+            is_explored_beside(&rt, job, text, &Holding::new(held, awaited))?,
             "{job}"
         );
     }

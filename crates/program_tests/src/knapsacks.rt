@@ -1,5 +1,7 @@
 //! Knapsacks, each document whole.
-use program_runs::{SACK, Solved, has_128_boxes, is_solved};
+use crate::asked::has_128_boxes;
+use crate::rows::{Solved, is_solved};
+use crate::texts::SACK;
 use std::test::Fail;
 
 const BOTH: &[u8] = b"format 1\ncontainer 10 10\nbox 4 4 value 2\nbox 4 4 value 3\n";

@@ -1,5 +1,5 @@
 //! Generated instances, decided by one worker and by several.
-use program_runs::{is_same_for_workers, run_with_workers};
+use crate::runs::{is_same_for_workers, run_with_workers};
 use std::alloc::AllocGlobal;
 use std::sync::Wait;
 use std::test::Fail;

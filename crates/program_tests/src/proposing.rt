@@ -1,8 +1,8 @@
 //! Instances that are decided by proposals first, with budgets of the described tree.
-use program_runs::{
-    EIGHT_IN_A_ROW, Solved, TWO_BOXES, UNIT, ends, is_refused, is_solved, run_on, stops_reading,
-    stops_writing, tells, writes,
-};
+use crate::asked::{ends, is_refused, stops_reading, stops_writing, tells, writes};
+use crate::rows::{Solved, is_solved};
+use crate::runs::run_on;
+use crate::texts::{EIGHT_IN_A_ROW, TWO_BOXES, UNIT};
 use std::alloc::AllocGlobal;
 use std::sync::Wait;
 use std::test::Fail;

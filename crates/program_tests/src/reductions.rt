@@ -1,8 +1,7 @@
 //! Instances that are decided from their symmetry facts on, and the documents that are audited.
-use program_runs::{
-    EIGHT_IN_A_ROW, Solved, TWO_BOXES, UNIT, ends, is_refused, is_solved, reads_all_and_prints,
-    stops_reading, stops_writing, tells,
-};
+use crate::asked::{ends, is_refused, reads_all_and_prints, stops_reading, stops_writing, tells};
+use crate::rows::{Solved, is_solved};
+use crate::texts::{EIGHT_IN_A_ROW, TWO_BOXES, UNIT};
 use std::test::Fail;
 
 const FOUR_IN_A_ROW: &[u8] = b"format 1\ncontainer 10 10\nbox 3 6\nbox 3 6\nbox 3 6\nbox 3 6\n";

@@ -1,5 +1,7 @@
 //! Strips, each document whole.
-use program_runs::{STRIP, Solved, has_128_boxes, is_solved};
+use crate::asked::has_128_boxes;
+use crate::rows::{Solved, is_solved};
+use crate::texts::STRIP;
 use std::test::Fail;
 
 const TOO_WIDE: &[u8] = b"format 1\ncontainer 10 10\nbox 11 2\n";

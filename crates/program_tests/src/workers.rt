@@ -1,5 +1,6 @@
 //! The same bytes by every number of workers.
-use program_runs::{EIGHT_IN_A_ROW, PLANKS, SACK, STRIP, is_same_for_workers};
+use crate::runs::is_same_for_workers;
+use crate::texts::{EIGHT_IN_A_ROW, PLANKS, SACK, STRIP};
 use std::test::Fail;
 
 const MANY: &[&str] = &["2", "4", "8"];

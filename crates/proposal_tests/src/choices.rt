@@ -93,8 +93,8 @@ fn values_are_closed_by_proposals(rt: HostRuntime) -> Result<(), Fail> {
     Ok(())
 }
 
-// Whether one worker and two come to 3 at the roots: that four are too many is refuted by their
-// areas in a proposed tree. Without scales no tree is proposed, and 4 is between the two.
+// Whether one worker and two find the greatest value 3 with a budget of 0: a proposed tree refutes
+// value 4 by the areas of the boxes. Without scales no tree is proposed, and value 4 stays open.
 fn is_closed_by_areas<R: Threads + Wait + Sync>(
     rt: &R,
     alloc: Global,
@@ -113,9 +113,9 @@ fn values_are_refuted_by_a_proposed_tree(rt: HostRuntime) -> Result<(), Fail> {
     Ok(())
 }
 
-// Whether the answer is between two values at the roots, and the greatest under an ample budget.
-// That five are too many is refuted by a tree with branchings, and by no token for the set of all:
-// without it 5 is between the two and beside both.
+// Whether the answer is between two values with a budget of 0, and the greatest value under an ample
+// one. No single token refutes the set of all boxes, only a tree with branchings: with a budget of 0
+// value 5 stays open between 4 and 6.
 fn is_open_at_the_roots<R: Threads + Wait + Sync>(
     rt: &R,
     alloc: Global,

@@ -1,4 +1,5 @@
 //! Choice trees with priced leaves and exchanges.
+use crate::verdicts::is_wanted;
 use bounded_tokens::BoundedToken;
 use box_instances::{BoxItem, Instance, Sides};
 use conservative_scales::{ScaleFn, ScaleTuple};
@@ -170,13 +171,6 @@ fn fed(
         taken = taken.saturating_add(1);
     }
     Ok((taken, FeedVerdict::More))
-}
-
-fn is_wanted(verdict: FeedVerdict, wanted: Option<RefuseCode>) -> bool {
-    match wanted {
-        None => verdict == FeedVerdict::Done,
-        Some(code) => verdict == FeedVerdict::Refused { code },
-    }
 }
 
 fn case_is_checked(alloc: Global, instance: &Instance, case: Case) -> Result<bool, Fail> {

@@ -1,6 +1,7 @@
 //! Refutations for bins and for values.
 ghost use Rattle.std.specs.Prelude.{◌≡◌};
 
+use crate::verdicts::is_wanted;
 use box_instances::{BoxItem, Instance, NoMemory, Sides};
 use conservative_scales::{ScaleFn, ScaleTuple};
 use outer_check::{Goal, OuterRefuter};
@@ -75,13 +76,6 @@ fn fed(
 type Wanted = Option<RefuseCode>;
 
 const DONE: Wanted = None;
-
-fn is_wanted(verdict: FeedVerdict, wanted: Wanted) -> bool {
-    match wanted {
-        None => verdict == FeedVerdict::Done,
-        Some(code) => verdict == FeedVerdict::Refused { code },
-    }
-}
 
 // For values: what is to be refuted of squares of 6, 6 and 4 with the values 5, 4 and 3, the
 // tokens, how many are taken with more to come, and the answer behind them.

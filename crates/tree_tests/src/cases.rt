@@ -1,4 +1,4 @@
-//! What the tests of both trees share.
+//! What the tests of bin trees and choice trees share.
 use box_instances::{BoxItem, Instance, NoMemory, Sides};
 use proof_tree::{Outcome, Token};
 use std::alloc::Global;

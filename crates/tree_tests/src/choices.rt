@@ -105,7 +105,7 @@ fn first_is_told_apart(alloc: Global, instance: &Instance) -> Result<bool, Fail>
 }
 
 #[test]
-fn trees_of_equal_parts_are_the_same(rt: HostRuntime) -> Result<(), Fail> {
+fn choice_trees_of_equal_parts_are_the_same(rt: HostRuntime) -> Result<(), Fail> {
     let instance = instance_of(rt.alloc(), &THREE)?;
     assert!(rt; first_is_told_apart(rt.alloc(), &instance)?);
     Ok(())

@@ -5,7 +5,7 @@ ghost use Rattle.std.specs.Prelude.{◌≡◌};
 use crate::cases::{BOARDS, THREE, instance_of};
 use box_instances::{Instance, NoMemory};
 use proof_tree::Outcome;
-use set_search::SetSearch;
+use set_search::{SetSearch, TASK_SET_BUDGET};
 use std::alloc::Global;
 use std::test::Fail;
 
@@ -35,14 +35,14 @@ fn two_fit_by<'a>(
 ) -> Result<bool, NoMemory>
     requires { pool.now.instance ≡ instance.now }
 {
-    let mut search = pool.take(alloc)?;
+    let mut search = pool.take(alloc, TASK_SET_BUDGET)?;
     let fit = two_fit(alloc, instance, &mut search)?;
     next.give(search);
     Ok(fit)
 }
 
-// Whether the pool of the three boxes decides that two don't fit: at first, again by what was decided,
-// and after a search of the boards, of which two fit, was given to it.
+// Whether the pool of the three boxes decides that two don't fit: at first, again by what was
+// decided, and after a search of the boards, of which two fit, was given to it.
 fn decides_its_own<'a>(
     alloc: Global,
     three: &Instance,

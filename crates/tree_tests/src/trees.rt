@@ -195,7 +195,7 @@ fn first_is_told_apart(alloc: Global, instance: &Instance) -> Result<bool, Fail>
 }
 
 #[test]
-fn trees_of_equal_parts_are_the_same(rt: HostRuntime) -> Result<(), Fail> {
+fn class_trees_of_equal_parts_are_the_same(rt: HostRuntime) -> Result<(), Fail> {
     let instance = two_boxes(rt.alloc(), 6)?;
     assert!(rt; first_is_told_apart(rt.alloc(), &instance)?);
     Ok(())

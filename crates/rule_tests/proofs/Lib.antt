@@ -1,0 +1,2 @@
+mod Outer
+mod WrittenStates
