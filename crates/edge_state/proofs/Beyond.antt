@@ -106,7 +106,7 @@ pub covered_beyond : (instance : PlainInstance) (es : List Exclusion) (i u v x :
     → here ≡ (((t Overlap && not (may Overlap q s)) || (t Before && not (may Before q s)))
     || (t After && not (may After q s))) && not (eqb x v)
     → here ≡ false → IsCovered instance (excludes es) es (Compose i u v x)
-covered_beyond instance es i u v x here q s t ne hq hs ht e off = record { holds = λ j a b r add. go j a b r add }
+covered_beyond instance es i u v x here q s t ne hq hs ht e off = record { holds = λ j a b r add need. go j a b r add }
   where
     X : Exclusions
     X = excludes es

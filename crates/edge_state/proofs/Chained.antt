@@ -17,6 +17,7 @@ use Rattle.packing_terms.proofs.Drawn.{ends_in}
 use Rattle.edge_state.specs.Work.{IsCovered, IsChainIn, IsChainUpToDate, IsUnordered}
 use Rattle.edge_state.specs.Passes.{IsChainChecked}
 use Rattle.edge_state.proofs.Touched.{IsAt, decide_at, only_old, old_adds}
+use Rattle.edge_state.proofs.Needed.{needed_less}
 
 -- what is covered in each instance of CHAIN
 chained_each : (instance : PlainInstance) (i : ℕ) (seen es : List Exclusion)
@@ -40,8 +41,8 @@ pub chained_grown : (instance : PlainInstance) (i : ℕ) (seen old new : List Ex
 chained_grown instance i seen old new more h =
     record {
       covered = λ rule is. record {
-        holds = λ j u v r add. more j u v r
-            ((h.covered rule is).holds j u v r add);
+        holds = λ j u v r add need. more j u v r
+            ((h.covered rule is).holds j u v r add (needed_less (excludes old) (excludes new) more rule r need));
       };
     }
 
@@ -69,13 +70,13 @@ pub chained_next : (instance : PlainInstance) (e : Exclusion) (seen old new : Li
     → (e.dim ≡ i → IsUnordered (excludes old) e) → IsChainUpToDate instance i seen new → IsChainUpToDate instance i (e ∷ seen) new
 chained_next instance e seen old new i within free h =
     chained_each instance i (e ∷ seen) new (λ before after u v. record {
-      holds = λ j a b r add. (h.covered (Chain i before u v after) refl).holds j a b r
+      holds = λ j a b r add need. (h.covered (Chain i before u v after) refl).holds j a b r
           (old_adds instance (excludes (e ∷ seen)) (excludes seen) (Chain i before u v after)
           (λ p. (
             chain_seen e seen old i within free (before ++ u ∷ []) p.0,
             chain_seen e seen old i within free (v ∷ after) p.1,
             p.2,
-          )) (λ s c. c) j a b r add);
+          )) (λ s c. c) j a b r add) tt;
     })
 
 -- With nothing excluded chains are single boxes, so CHAIN adds what PAIR adds.
@@ -84,7 +85,7 @@ pub chained_first : (instance : PlainInstance) (i : ℕ) (es : List Exclusion)
     → IsChainUpToDate instance i [] es
 chained_first instance i es pairs =
     chained_each instance i [] es (λ before after u v.
-    record { holds = λ j a b r add. at before after u v j a b r add })
+    record { holds = λ j a b r add need. at before after u v j a b r add })
   where
     shut : (before after : List ℕ) (u v : ℕ) → IsRuleInstance instance (Chain i before u v after)
         → Premises instance (excludes []) (Chain i before u v after)
@@ -96,7 +97,7 @@ chained_first instance i es pairs =
         let wide : container_side instance i < side instance u i + side instance v i = omega (arith, p.2) in
         (pairs i u v (is.0, (is.1.0, (is.3, tt), (is.2.0, tt, tt)))).holds _ _ _ _
         (added Before (is.0, (is.1.0, (is.3, tt), (is.2.0, tt, tt))) wide
-        (λ f. true≢false (ap (λ (r : Rel). is_same_rel r Before) f)))
+        (λ f. true≢false (ap (λ (r : Rel). is_same_rel r Before) f))) tt
 
     at : (before after : List ℕ) (u v : ℕ) (j a b : ℕ) (r : Rel)
         → Adds instance (excludes []) (Chain i before u v after) j a b r → excludes es j a b r ≡ true
@@ -111,7 +112,7 @@ pub chained_heaviest : (instance : PlainInstance) (i : ℕ) (old new : List Excl
     → IsChainUpToDate instance i old new
 chained_heaviest instance i old new head tail heads tails done =
     chained_each instance i old new
-    (λ before after u v. record { holds = λ j a b r add. at before after u v j a b r add })
+    (λ before after u v. record { holds = λ j a b r add need. at before after u v j a b r add })
   where
     shut : (before after : List ℕ) (u v : ℕ) → IsRuleInstance instance (Chain i before u v after)
         → Premises instance (excludes old) (Chain i before u v after)

@@ -12,6 +12,7 @@ use Rattle.packing_terms.specs.Rules.{second_of}
 use Rattle.packing_terms.specs.Applied.{Adds, added, mirror_added}
 use Rattle.packing_terms.proofs.Sets.{excludes_symmetric}
 use Rattle.edge_state.specs.Edges.{is_other_box}
+use Rattle.edge_state.proofs.Needed.{order_shut}
 use Rattle.edge_state.proofs.Kept.{row_open, row_shut}
 use Rattle.edge_state.specs.Work.{IsCovered}
 use Rattle.edge_state.proofs.Worked.{covered_if, covered_not}
@@ -60,7 +61,7 @@ pub covered_by : (instance : PlainInstance) (es : List Exclusion) (rule : Rule)
     → (IsRuleInstance instance rule → Premises instance (excludes es) rule → (r : Rel) → Concludes (excludes es) rule r
     → excludes es (dim_of rule) (first_of rule) (second_of rule) r ≡ true)
     → IsCovered instance (excludes es) es rule
-covered_by instance es rule h = record { holds = λ i u v r add. go i u v r add }
+covered_by instance es rule h = record { holds = λ i u v r add need. go i u v r add }
   where
     go : (i u v : ℕ) (r : Rel) → Adds instance (excludes es) rule i u v r → excludes es i u v r ≡ true
     go _ _ _ _ (added r is p c) = h is p r c
@@ -87,12 +88,6 @@ joined_rest : (X : Exclusions) (i u v : ℕ) (r : Rel) → r ≢ Overlap → (X 
 joined_rest X i u v Overlap ne h = absurd (ne refl)
 joined_rest X i u v Before ne h = h.0
 joined_rest X i u v After ne h = h.1
-
-before_rest : (X : Exclusions) (i u v : ℕ) (r : Rel) → r ≢ Before → (X i u v Overlap ≡ true) × (X i u v After ≡ true)
-    → X i u v r ≡ true
-before_rest X i u v Overlap ne h = h.0
-before_rest X i u v Before ne h = absurd (ne refl)
-before_rest X i u v After ne h = h.1
 
 pub covered_triple : (instance : PlainInstance) (es : List Exclusion) (i u v x : ℕ) (a b : Bool) → (a && not b) ≡ false
     → (u ≢ v → a ≡ false → (excludes es i u v Before ≡ true) × (excludes es i u v After ≡ true))
@@ -131,33 +126,37 @@ covered_cycle instance es i a b c d free third first off shut some_third some_fi
 
 pub covered_order_from : (instance : PlainInstance) (es : List Exclusion) (i a b c d : ℕ) (free last : Bool)
     → (free && not last) ≡ false
-    → (b ≢ c → free ≡ false → (excludes es i b c Overlap ≡ true) × (excludes es i b c Before ≡ true))
+    → (b ≢ c → a ≢ c → free ≡ false → (excludes es i b c Overlap ≡ true) ⊎ (excludes es i a c Overlap ≡ true))
     → (last ≡ true → excludes es i d c Overlap ≡ true → excludes es i d c Before ≡ true → ⊥)
     → IsCovered instance (excludes es) es (Order i a b c d)
 covered_order_from instance es i a b c d free last off shut some =
-    covered_by instance es (Order i a b c d) (λ is p r k. go is p r k (minus_off free last off))
+    order_shut instance es es i a b c d (λ is p ad bd ac. go is p ac (minus_off free last off))
   where
-    turned : (excludes es i b c Overlap ≡ true) × (excludes es i b c Before ≡ true) → (excludes es i c b Overlap ≡ true)
-        × (excludes es i c b After ≡ true)
-    turned h = (excludes_symmetric es i b c Overlap h.0, excludes_symmetric es i b c Before h.1)
+    gone : (excludes es i b c Overlap ≡ true) ⊎ (excludes es i a c Overlap ≡ true) → excludes es i a c Overlap ≡ false
+        → excludes es i c b Overlap ≡ true
+    gone (inl h) ac = excludes_symmetric es i b c Overlap h
+    gone (inr h) ac = absurd (true≢false (sym h ∙ ac))
 
-    go : IsRuleInstance instance (Order i a b c d) → Premises instance (excludes es) (Order i a b c d) → (r : Rel)
-        → r ≢ Before
-        → (free ≡ false) ⊎ (last ≡ true) → excludes es i c b r ≡ true
-    go is p r k (inl f) = before_rest (excludes es) i c b r k (turned (shut is.1.2.1.0 f))
-    go is p r k (inr g) = absurd (some g (excludes_symmetric es i c d Overlap p.1.0)
+    go : IsRuleInstance instance (Order i a b c d) → Premises instance (excludes es) (Order i a b c d)
+        → excludes es i a c Overlap ≡ false → (free ≡ false) ⊎ (last ≡ true) → excludes es i c b Overlap ≡ true
+    go is p ac (inl f) = gone (shut is.1.2.1.0 is.1.1.1.0 f) ac
+    go is p ac (inr g) = absurd (some g (excludes_symmetric es i c d Overlap p.1.0)
         (excludes_symmetric es i c d After p.1.1))
 
 pub covered_order_to : (instance : PlainInstance) (es : List Exclusion) (i a b c d : ℕ) (free first : Bool)
     → (free && not first) ≡ false
-    → (c ≢ b → free ≡ false → (excludes es i c b Overlap ≡ true) × (excludes es i c b After ≡ true))
+    → (c ≢ b → d ≢ b → free ≡ false → (excludes es i c b Overlap ≡ true) ⊎ (excludes es i d b Overlap ≡ true))
     → (first ≡ true → excludes es i a b Overlap ≡ true → excludes es i a b After ≡ true → ⊥)
     → IsCovered instance (excludes es) es (Order i a b c d)
 covered_order_to instance es i a b c d free first off shut some =
-    covered_by instance es (Order i a b c d) (λ is p r k. go is p r k (minus_off free first off))
+    order_shut instance es es i a b c d (λ is p ad bd ac. go is p bd (minus_off free first off))
   where
-    go : IsRuleInstance instance (Order i a b c d) → Premises instance (excludes es) (Order i a b c d) → (r : Rel)
-        → r ≢ Before
-        → (free ≡ false) ⊎ (first ≡ true) → excludes es i c b r ≡ true
-    go is p r k (inl f) = before_rest (excludes es) i c b r k (shut (λ e. is.1.2.1.0 (sym e)) f)
-    go is p r k (inr g) = absurd (some g p.0.0 p.0.1)
+    gone : (excludes es i c b Overlap ≡ true) ⊎ (excludes es i d b Overlap ≡ true) → excludes es i b d Overlap ≡ false
+        → excludes es i c b Overlap ≡ true
+    gone (inl h) bd = h
+    gone (inr h) bd = absurd (true≢false (sym (excludes_symmetric es i d b Overlap h) ∙ bd))
+
+    go : IsRuleInstance instance (Order i a b c d) → Premises instance (excludes es) (Order i a b c d)
+        → excludes es i b d Overlap ≡ false → (free ≡ false) ⊎ (first ≡ true) → excludes es i c b Overlap ≡ true
+    go is p bd (inl f) = gone (shut (λ e. is.1.2.1.0 (sym e)) (λ e. is.1.2.1.1.0 (sym e)) f) bd
+    go is p bd (inr g) = absurd (some g p.0.0 p.0.1)

@@ -50,7 +50,7 @@ pub looked_step : (instance : PlainInstance) (s t : PlainEdges) (e : Exclusion) 
     → HasRelationLeft instance (excludes s.trail) e.dim e.u e.v
     → HasApplied instance s t false (λ rule. HasNoEmptyMask instance (excludes s.trail)
     × IsDue fresh e.dim e.u e.v rule)
-    → IsChangeAfter s.trail mark e (mark + 1) → IsNextMark s.trail mark e fresh next
+    → IsChangeAfter s.trail mark e (mark + 1) → IsNextMark mark e fresh next
     → ((i : ℕ) → row_has more i ≡ false → row_has dirty i ≡ false)
     → ((i : ℕ) → row_has more i ≡ false → e.dim ≡ i → IsUnordered (excludes s.trail) e)
     → ((i : ℕ) → row_has more i ≡ true → (i ≡ e.dim) ⊎ (row_has dirty i ≡ true))

@@ -14,7 +14,8 @@ use Rattle.packing_terms.proofs.Sets.{excludes_symmetric, mirror_twice}
 use Rattle.packing_terms.proofs.Monotone.{open_less}
 use Rattle.packing_terms.specs.Places.{HasNoEmptyMask}
 use Rattle.packing_terms.proofs.Steps.{open_mirrored}
-use Rattle.edge_state.specs.Work.{IsLocal, ReadsEdge, IsAppliedAt, IsDueAt, IsDue, IsCovered, IsUpToDate, IsPropagated}
+use Rattle.edge_state.specs.Work.{IsLocal, ReadsEdge, IsAppliedAt, IsDueAt, IsDue, IsCovered, IsNeeded, IsUpToDate}
+use Rattle.edge_state.specs.Work.{IsPropagated}
 use Rattle.edge_state.proofs.Touched.{IsTouched, IsAt, decide_at, touched_or_old, adds_more, still_open}
 
 not_overlap : (r : Rel) → r ≢ Overlap → mirror r ≢ Overlap
@@ -151,26 +152,31 @@ module _ (instance : PlainInstance) (es : List Exclusion) where
   abbrev pub HasReached : (fresh : Rel → Bool) → ℕ → ℕ → ℕ → Rule → Type 0
   HasReached fresh j p q rule = (other : Rule) × IsDue fresh j p q other
       × ((k a b : ℕ) (r : Rel) → Adds instance (excludes es) rule k a b r → Adds instance (excludes es) other k a b r)
+      × ((X : Exclusions) (r : Rel) → IsNeeded X rule r → IsNeeded X other r)
 
   pub reached : (fresh : Rel → Bool) (j p q : ℕ) (rule : Rule) → ReadsEdge fresh rule j p q
       → HasReached fresh j p q rule
   reached fresh j p q (Pair i u v) h = absurd h
   reached fresh j p q (Chain i before u v after) h = absurd h
-  reached fresh j p q (Apart i u v) h = (Apart i u v, inl h, λ k a b r x. x)
-  reached fresh j p q (Triple i u v x) ((d, inl h), new) = (Triple i u v x, inl ((d, h.0, h.1), new), λ k a b r y. y)
+  reached fresh j p q (Apart i u v) h = (Apart i u v, inl h, (λ k a b r x. x), λ X r n. tt)
+  reached fresh j p q (Triple i u v x) ((d, inl h), new) = (Triple i u v x, inl ((d, h.0, h.1), new), (λ k a b r y. y), λ X r n. tt)
   reached fresh j p q (Triple i u v x) ((d, inr h), new) =
-      (Triple i v u x, inl ((d, h.0, h.1), new), triple_turned i u v x)
-  reached fresh j p q (Compose i u v x) (d, inl h) = (Compose i u v x, inl (d, h.0, h.1), λ k a b r y. y)
-  reached fresh j p q (Compose i u v x) (d, inr h) = (Compose i x v u, inr (d, h.1, h.0), compose_turned i u v x)
-  reached fresh j p q (Cycle i a b c d) (e, inl h) = (Cycle i a b c d, inl (e, inl h), λ k x y r z. z)
+      (Triple i v u x, inl ((d, h.0, h.1), new), triple_turned i u v x, λ X r n. tt)
+  reached fresh j p q (Compose i u v x) (d, inl h) = (Compose i u v x, inl (d, h.0, h.1), (λ k a b r y. y), λ X r n. tt)
+  reached fresh j p q (Compose i u v x) (d, inr h) = (Compose i x v u, inr (d, h.1, h.0), compose_turned i u v x, λ X r n. tt)
+  reached fresh j p q (Cycle i a b c d) (e, inl h) = (Cycle i a b c d, inl (e, inl h), (λ k x y r z. z), λ X r n. tt)
   reached fresh j p q (Cycle i a b c d) (e, inr (inl h)) =
-      (Cycle i c b a d, inr (e, inl (h.1, h.0)), cycle_ac i a b c d)
-  reached fresh j p q (Cycle i a b c d) (e, inr (inr (inl h))) =
-      (Cycle i c d a b, inl (e, inl h), λ k x y r z. cycle_bd i c b a d k x y r (cycle_ac i a b c d k x y r z))
+      (Cycle i c b a d, inr (e, inl (h.1, h.0)), cycle_ac i a b c d, λ X r n. tt)
+  reached fresh j p q (Cycle i a b c d) (e, inr (inr (inl h))) = (
+    Cycle i c d a b,
+    inl (e, inl h),
+    (λ k x y r z. cycle_bd i c b a d k x y r (cycle_ac i a b c d k x y r z)),
+    λ X r n. tt,
+  )
   reached fresh j p q (Cycle i a b c d) (e, inr (inr (inr (inl h)))) =
-      (Cycle i a d c b, inr (e, inl (h.1, h.0)), cycle_bd i a b c d)
-  reached fresh j p q (Cycle i a b c d) (e, inr (inr (inr (inr h)))) = (Cycle i a b c d, inl (e, inr h), λ k x y r z. z)
-  reached fresh j p q (Order i a b c d) h = (Order i a b c d, inl h, λ k x y r z. z)
+      (Cycle i a d c b, inr (e, inl (h.1, h.0)), cycle_bd i a b c d, λ X r n. tt)
+  reached fresh j p q (Cycle i a b c d) (e, inr (inr (inr (inr h)))) = (Cycle i a b c d, inl (e, inr h), (λ k x y r z. z), λ X r n. tt)
+  reached fresh j p q (Order i a b c d) h = (Order i a b c d, inl h, (λ k x y r z. z), λ X r n. n)
 
 -- an instance that is due among some relations is so among others that are the same
 due_same : (f g : Rel → Bool) → ((r : Rel) → f r ≡ true → g r ≡ true) → (j p q : ℕ) (rule : Rule)
@@ -216,29 +222,33 @@ covered_due : (instance : PlainInstance) (fresh : Rel → Bool) (e : Exclusion) 
     → ((rule : Rule) → IsDue fresh e.dim e.u e.v rule → IsCovered instance (excludes old) new rule)
     → (rule : Rule) → IsLocal rule → IsCovered instance (excludes (e ∷ seen)) new rule
 covered_due instance fresh e seen old new first within settled done rule local = record {
-  holds = λ i u v r add. go rule local i u v r add
+  holds = λ i u v r add need. go rule local i u v r add need
       (touched_or_old instance fresh e seen rule first local);
 }
   where
     by_reached : (rule : Rule) (other : Rule) → IsCovered instance (excludes old) new other
         → ((j p q : ℕ) (s : Rel) → Adds instance (excludes (e ∷ seen)) rule j p q s
         → Adds instance (excludes (e ∷ seen)) other j p q s)
-        → (i u v : ℕ) (r : Rel) → Adds instance (excludes (e ∷ seen)) rule i u v r → excludes new i u v r ≡ true
-    by_reached rule other covers less i u v r add =
+        → ((X : Exclusions) (s : Rel) → IsNeeded X rule s → IsNeeded X other s)
+        → (i u v : ℕ) (r : Rel) → Adds instance (excludes (e ∷ seen)) rule i u v r → IsNeeded (excludes new) rule r
+        → excludes new i u v r ≡ true
+    by_reached rule other covers less needs i u v r add need =
         covers.holds i u v r
         (adds_more instance (excludes (e ∷ seen)) (excludes old) within other i u v r (less i u v r add))
+        (needs (excludes new) r need)
 
     go : (rule : Rule) → IsLocal rule → (i u v : ℕ) (r : Rel) → Adds instance (excludes (e ∷ seen)) rule i u v r
+        → IsNeeded (excludes new) rule r
         → IsTouched fresh e rule ⊎ ((j a b : ℕ) (s : Rel) → Adds instance (excludes (e ∷ seen)) rule j a b s
         → Adds instance (excludes seen) rule j a b s)
         → excludes new i u v r ≡ true
-    go rule local i u v r add (inr less) = (settled rule local).holds i u v r (less i u v r add)
-    go rule local i u v r add (inl (inl t)) =
+    go rule local i u v r add need (inr less) = (settled rule local).holds i u v r (less i u v r add) need
+    go rule local i u v r add need (inl (inl t)) =
         let h = reached instance (e ∷ seen) fresh e.dim e.u e.v rule t in
-        by_reached rule h.0 (done h.0 h.1) h.2 i u v r add
-    go rule local i u v r add (inl (inr t)) =
+        by_reached rule h.0 (done h.0 h.1) h.2 h.3 i u v r add need
+    go rule local i u v r add need (inl (inr t)) =
         let h = reached instance (e ∷ seen) (λ s. fresh (mirror s)) e.dim e.v e.u rule t in
-        by_reached rule h.0 (done h.0 (due_swapped fresh e.dim e.u e.v h.0 h.1)) h.2 i u v r add
+        by_reached rule h.0 (done h.0 (due_swapped fresh e.dim e.u e.v h.0 h.1)) h.2 h.3 i u v r add need
 
 -- no mask is empty by what was looked through, since that of the edge isn't
 full_next : (instance : PlainInstance) (e : Exclusion) (seen old : List Exclusion)

@@ -4,13 +4,13 @@ use Rattle.std.proofs.Common.{arith, Bool, true, false, List, [], ◌∷◌, len
 use Rattle.std.proofs.lemmas.Bool.{true≢false, cases_lt, or_right}
 use Rattle.std.proofs.lemmas.List.{length-append}
 use Rattle.packing_terms.specs.declared.Rel.{Rel}
-use Rattle.packing_terms.specs.declared.Rel.TheVariants.{Overlap, Before, After}
+use Rattle.packing_terms.specs.declared.Rel.TheVariants.{Overlap}
 use Rattle.packing_terms.specs.declared.Exclusion.{Exclusion}
 use Rattle.packing_terms.specs.Packing.{PlainInstance, dims, box_count}
-use Rattle.packing_terms.specs.Relations.{allows}
 use Rattle.packing_terms.specs.Exclusions.{Exclusions, excludes, is_of, IsEdge, IsEdgeAmong, IsSurelyBefore}
 use Rattle.packing_terms.specs.Rules.{Rule, Pair, Apart, Triple, Chain, Compose, Cycle, Order, IsRuleInstance, Premises}
-use Rattle.packing_terms.specs.Rules.{Concludes, by_rule, mirrored}
+use Rattle.packing_terms.specs.Rules.{Concludes, by_rule, mirrored, dim_of, first_of, second_of}
+use Rattle.packing_terms.proofs.Sets.{excludes_symmetric}
 use Rattle.packing_terms.specs.Closure.{IsSubset, IsStable}
 use Rattle.packing_terms.proofs.Monotone.{open_less}
 use Rattle.packing_terms.specs.Applied.{Adds, added, mirror_added, Extends}
@@ -22,8 +22,10 @@ use Rattle.edge_state.specs.Edges.{PlainEdges, oldest}
 use Rattle.edge_state.specs.Answers.{IsChangeAfter}
 use Rattle.edge_state.specs.States.{HasRelationLeft}
 use Rattle.edge_state.specs.Work.{IsLocal, IsDue, IsCovered, IsExhausted, HasApplied, IsUpToDate, IsPropagated, IsChainUpToDate}
-use Rattle.edge_state.specs.Work.{IsUnordered, IsNextMark, behind_one, behind_two}
+use Rattle.edge_state.specs.Work.{IsUnordered, IsNextMark}
 use Rattle.edge_state.proofs.Touched.{adds_more}
+use Rattle.edge_state.proofs.Needed.{needed_less}
+use Rattle.edge_state.proofs.Ordered.{before_before, order_by_compose}
 use Rattle.edge_state.proofs.Worked.{covered_not}
 use Rattle.edge_state.proofs.Reached.{settled_due, pair_turned}
 use Rattle.edge_state.proofs.Chained.{chained_next, chained_grown, chained_first}
@@ -62,8 +64,9 @@ pub settled_grown : (instance : PlainInstance) (seen old new : List Exclusion) �
     → IsPropagated instance seen new
 settled_grown instance seen old new more h = record {
   covered = λ none rule local. record {
-    holds = λ i u v r add. more i u v r
-        ((h.covered (none_before instance (excludes old) (excludes new) more none) rule local).holds i u v r add);
+    holds = λ i u v r add need. more i u v r
+        ((h.covered (none_before instance (excludes old) (excludes new) more none) rule local).holds i u v r add
+        (needed_less (excludes old) (excludes new) more rule r need));
   };
   full = h.full;
 }
@@ -122,46 +125,28 @@ module _ (instance : PlainInstance) (s t : PlainEdges) (e : Exclusion) (edge : I
       (chained_next instance f (oldest mark s.trail) s.trail t.trail i (seen_within mark next f change)
       (λ is. let h = free (sym d ∙ is) in record { forth = rw (d, u, v) h.forth; back = rw (d, u, v) h.back }) chained)
 
-  -- all changes at the edge that stand together
+  -- the next change
   pub settled_step : (mark next : ℕ) → IsPropagated instance (oldest mark s.trail) s.trail
       → IsChangeAfter s.trail mark e (mark + 1)
-      → IsNextMark s.trail mark e fresh next → IsPropagated instance (oldest next t.trail) t.trail
-  settled_step mark next settled change behind = go behind
-    where
-      one : fresh e.rel ≡ true → IsPropagated instance (oldest (mark + 1) t.trail) t.trail
-      one new = settled_one mark (mark + 1) e change refl refl refl new
-          (settled_grown instance (oldest mark s.trail) s.trail t.trail work.extends.kept settled)
-
-      go : IsNextMark s.trail mark e fresh next → IsPropagated instance (oldest next t.trail) t.trail
-      go (behind_one is new) = rw is (one new)
-      go (behind_two f more d u v new also) =
-          settled_one (mark + 1) next f more d u v also
-          (subst (λ (l : List Exclusion). IsPropagated instance l t.trail)
-          (seen_before (mark + 1) (let h = change.before_last in omega arith)) (one new))
+      → IsNextMark mark e fresh next → IsPropagated instance (oldest next t.trail) t.trail
+  settled_step mark next settled change after = rw after.counted
+      (settled_one mark (mark + 1) e change refl refl refl after.new
+      (settled_grown instance (oldest mark s.trail) s.trail t.trail work.extends.kept settled))
 
   pub chained_step : (i mark next : ℕ) → (e.dim ≡ i → IsUnordered (excludes s.trail) e)
       → IsChainUpToDate instance i (oldest mark s.trail) s.trail
-      → IsChangeAfter s.trail mark e (mark + 1) → IsNextMark s.trail mark e fresh next
+      → IsChangeAfter s.trail mark e (mark + 1) → IsNextMark mark e fresh next
       → IsChainUpToDate instance i (oldest next t.trail) t.trail
-  chained_step i mark next free chained change behind = go behind
-    where
-      one : IsChainUpToDate instance i (oldest (mark + 1) t.trail) t.trail
-      one = chained_one i mark (mark + 1) e change refl refl refl free
-          (chained_grown instance i (oldest mark s.trail) s.trail t.trail work.extends.kept chained)
-
-      go : IsNextMark s.trail mark e fresh next → IsChainUpToDate instance i (oldest next t.trail) t.trail
-      go (behind_one is new) = rw is one
-      go (behind_two f more d u v new also) =
-          chained_one i (mark + 1) next f more d u v free
-          (subst (λ (l : List Exclusion). IsChainUpToDate instance i l t.trail)
-          (seen_before (mark + 1) (let h = change.before_last in omega arith)) one)
+  chained_step i mark next free chained change after = rw after.counted
+      (chained_one i mark (mark + 1) e change refl refl refl free
+      (chained_grown instance i (oldest mark s.trail) s.trail t.trail work.extends.kept chained))
 
 -- a stable list was settled
 pub settled_stable : (instance : PlainInstance) (seen es : List Exclusion) → IsStable instance (excludes seen)
     → HasNoEmptyMask instance (excludes seen)
     → IsSubset (excludes seen) (excludes es) → IsUpToDate instance seen es
 settled_stable instance seen es stable full within = record {
-  covered = λ rule local. record { holds = λ i u v r add. go rule i u v r add };
+  covered = λ rule local. record { holds = λ i u v r add need. go rule i u v r add };
   full = full;
 }
   where
@@ -173,7 +158,7 @@ pub chained_stable : (instance : PlainInstance) (i : ℕ) (seen es : List Exclus
     → IsSubset (excludes seen) (excludes es)
     → IsChainUpToDate instance i seen es
 chained_stable instance i seen es stable within =
-    record { covered = λ rule is. record { holds = λ j u v r add. go rule j u v r add } }
+    record { covered = λ rule is. record { holds = λ j u v r add need. go rule j u v r add } }
   where
     go : (rule : Rule) (j u v : ℕ) (r : Rel) → Adds instance (excludes seen) rule j u v r → excludes es j u v r ≡ true
     go rule _ _ _ _ (added r is p c) = within _ _ _ _ (stable _ _ _ _ (by_rule rule r is p c))
@@ -211,15 +196,15 @@ settled_first instance es two pairs =
     none i u v x _ _ _ _ (mirror_added r is p c) = absurd (composed i u v x r c)
 
     paired : (i u v j a b : ℕ) (r : Rel) → Adds instance (excludes []) (Pair i u v) j a b r → excludes es j a b r ≡ true
-    paired i u v _ _ _ _ (added r is p c) = (pairs i u v is).holds _ _ _ _ (added r is p c)
-    paired i u v _ _ _ _ (mirror_added r is p c) = (pairs i u v is).holds _ _ _ _ (mirror_added r is p c)
+    paired i u v _ _ _ _ (added r is p c) = (pairs i u v is).holds _ _ _ _ (added r is p c) tt
+    paired i u v _ _ _ _ (mirror_added r is p c) = (pairs i u v is).holds _ _ _ _ (mirror_added r is p c) tt
 
     at : (rule : Rule) → IsLocal rule → IsCovered instance (excludes []) es rule
     at (Chain i before u v after) l = absurd l
-    at (Pair i u v) l = record { holds = paired i u v }
+    at (Pair i u v) l = record { holds = λ j a b r add need. paired i u v j a b r add }
     at (Apart i u v) l = covered_not instance (excludes []) es (Apart i u v) (apart i u v)
     at (Triple i u v x) l = covered_not instance (excludes []) es (Triple i u v x) (λ p. nothing p.0)
-    at (Compose i u v x) l = record { holds = none i u v x }
+    at (Compose i u v x) l = record { holds = λ j a b r add need. none i u v x j a b r add }
     at (Cycle i a b c d) l = covered_not instance (excludes []) es (Cycle i a b c d) (λ p. nothing p.0.0)
     at (Order i a b c d) l = covered_not instance (excludes []) es (Order i a b c d) (λ p. nothing p.0.0)
 
@@ -227,21 +212,8 @@ settled_first instance es two pairs =
 pub settled_transitive : (instance : PlainInstance) (es : List Exclusion) (i : ℕ) → i < dims instance
     → IsUpToDate instance es es
     → IsTransitive (box_count instance) (IsSurelyBefore (excludes es) i)
-settled_transitive instance es i hi settled u v x b uv vx = (
-  at.holds _ _ _ _ (added Overlap (hi, b) tt (λ q s e f. only q s Overlap e f refl)),
-  at.holds _ _ _ _ (added After (hi, b) tt (λ q s e f. only q s After e f refl)),
-)
-  where
-    at : IsCovered instance (excludes es) es (Compose i u v x)
-    at = settled.covered (Compose i u v x) tt
-
-    only : (q s r : Rel) → excludes es i u v q ≡ false → excludes es i v x s ≡ false → allows Before Before r ≡ false
-        → allows q s r ≡ false
-    only Before Before r e f g = g
-    only Overlap s r e f g = absurd (true≢false (sym uv.0 ∙ e))
-    only After s r e f g = absurd (true≢false (sym uv.1 ∙ e))
-    only Before Overlap r e f g = absurd (true≢false (sym vx.0 ∙ f))
-    only Before After r e f g = absurd (true≢false (sym vx.1 ∙ f))
+settled_transitive instance es i hi settled u v x b uv vx =
+    before_before instance es i hi (λ p q y. settled.covered (Compose i p q y) tt) u v x b uv vx
 
 all_covered : (instance : PlainInstance) (es : List Exclusion) → IsUpToDate instance es es
     → ((i : ℕ) → i < dims instance → IsChainUpToDate instance i es es)
@@ -256,12 +228,33 @@ all_covered instance es settled chains (Cycle i a b c d) is = settled.covered (C
 all_covered instance es settled chains (Order i a b c d) is = settled.covered (Order i a b c d) tt
 
 -- All is looked through and CHAIN adds nothing: no rule adds anything.
+none_left : (instance : PlainInstance) (es : List Exclusion) → IsUpToDate instance es es
+    → ((i : ℕ) → i < dims instance → IsChainUpToDate instance i es es) → (rule : Rule) → IsRuleInstance instance rule
+    → Premises instance (excludes es) rule → (r : Rel) → Concludes (excludes es) rule r
+    → excludes es (dim_of rule) (first_of rule) (second_of rule) r ≡ true
+none_left instance es settled chains (Pair i u v) is p r k =
+    (all_covered instance es settled chains (Pair i u v) is).holds _ _ _ _ (added r is p k) tt
+none_left instance es settled chains (Apart i u v) is p r k =
+    (all_covered instance es settled chains (Apart i u v) is).holds _ _ _ _ (added r is p k) tt
+none_left instance es settled chains (Triple i u v x) is p r k =
+    (all_covered instance es settled chains (Triple i u v x) is).holds _ _ _ _ (added r is p k) tt
+none_left instance es settled chains (Chain i before u v after) is p r k =
+    (all_covered instance es settled chains (Chain i before u v after) is).holds _ _ _ _ (added r is p k) tt
+none_left instance es settled chains (Compose i u v x) is p r k =
+    (all_covered instance es settled chains (Compose i u v x) is).holds _ _ _ _ (added r is p k) tt
+none_left instance es settled chains (Cycle i a b c d) is p r k =
+    (all_covered instance es settled chains (Cycle i a b c d) is).holds _ _ _ _ (added r is p k) tt
+none_left instance es settled chains (Order i a b c d) is p r k =
+    order_by_compose instance es i is.0 (λ u v x. settled.covered (Compose i u v x) tt) a b c d
+    (settled.covered (Order i a b c d) tt) is p r k
+
 pub stable_settled : (instance : PlainInstance) (es : List Exclusion) → IsUpToDate instance es es
     → ((i : ℕ) → i < dims instance → IsChainUpToDate instance i es es) → IsStable instance (excludes es)
 stable_settled instance es settled chains _ _ _ _ (by_rule rule r is p c) =
-    (all_covered instance es settled chains rule is).holds _ _ _ _ (added r is p c)
+    none_left instance es settled chains rule is p r c
 stable_settled instance es settled chains _ _ _ _ (mirrored rule r is p c) =
-    (all_covered instance es settled chains rule is).holds _ _ _ _ (mirror_added r is p c)
+    excludes_symmetric es (dim_of rule) (first_of rule) (second_of rule) r
+    (none_left instance es settled chains rule is p r c)
 
 pub settled_after : (instance : PlainInstance) (old new : List Exclusion) (k : ℕ) → Extends instance old new
     → k ≡ length old → IsPropagated instance old old
@@ -286,9 +279,9 @@ pairs_first : (instance : PlainInstance) (old new : List Exclusion)
     → ((i u v : ℕ) → IsRuleInstance instance (Pair i u v) → IsCovered instance (excludes old) new (Pair i u v))
     → (i u v : ℕ) → IsRuleInstance instance (Pair i u v) → IsCovered instance (excludes []) new (Pair i u v)
 pairs_first instance old new pairs i u v is = record {
-  holds = λ j a b r add. (pairs i u v is).holds j a b r
+  holds = λ j a b r add need. (pairs i u v is).holds j a b r
       (adds_more instance (excludes []) (excludes old) (λ x y z t h. absurd (true≢false (sym h))) (Pair i u v)
-      j a b r add);
+      j a b r add) tt;
 }
 
 -- PAIR adds the same with its two boxes swapped, so that one order of them is enough
@@ -304,7 +297,7 @@ pairs_both instance X es half i u v is = go (cases_lt u v)
     go (inl h) = half i u v h is
     go (inr h) =
         let less : v < u = omega (arith, h, is.1.1.0) in
-        record { holds = λ j a b r add. (turned less).holds j a b r (pair_turned instance X i u v j a b r add) }
+        record { holds = λ j a b r add need. (turned less).holds j a b r (pair_turned instance X i u v j a b r add) tt }
 
 pub settled_pairs : (instance : PlainInstance) (old new : List Exclusion) (k : ℕ) → k ≡ 0 → 2 ≤ dims instance
     → ((i u v : ℕ) → IsRuleInstance instance (Pair i u v) → IsCovered instance (excludes old) new (Pair i u v))
@@ -320,18 +313,14 @@ chained_pairs instance i old new k e pairs =
     subst (λ (l : List Exclusion). IsChainUpToDate instance i l new) (sym (oldest_none new k e))
     (chained_first instance i new (pairs_first instance old new pairs))
 
--- the position behind is in the list, and later
+-- the position after it is in the list, and later
 pub behind_within : (es : List Exclusion) (mark next : ℕ) (e : Exclusion) (fresh : Rel → Bool) → mark < length es
-    → IsNextMark es mark e fresh next → (mark < next) × (next ≤ length es)
-behind_within es mark next e fresh h (behind_one is new) = (omega (arith, is), omega (arith, h, is))
-behind_within es mark next e fresh h (behind_two f change d u v new also) =
-    let before_last : mark + 1 < length es = change.before_last in
-    let counted : next ≡ mark + 1 + 1 = change.counted in
-    (omega (arith, counted), omega (arith, before_last, counted))
+    → IsNextMark mark e fresh next → (mark < next) × (next ≤ length es)
+behind_within es mark next e fresh h after = (omega (arith, after.counted), omega (arith, h, after.counted))
 
 pub grown_past : (instance : PlainInstance) (old new : List Exclusion) (mark next : ℕ) (e : Exclusion)
     (fresh : Rel → Bool) → Extends instance old new → mark < length old
-    → IsNextMark old mark e fresh next → next ≤ length new
+    → IsNextMark mark e fresh next → next ≤ length new
 grown_past instance old new mark next e fresh extends h behind =
     let grown : length new ≡ length extends.more + length old = rw extends.grown (length-append extends.more old) in
     let within = behind_within old mark next e fresh h behind in

@@ -11,8 +11,9 @@ use Rattle.packing_terms.specs.Applied.{Adds, added, mirror_added, IsApplied}
 use Rattle.packing_terms.proofs.Applied.{extends_refl, extends_trans}
 use Rattle.edge_state.specs.Edges.{PlainEdges}
 use Rattle.edge_state.specs.States.{IsSized}
-use Rattle.edge_state.specs.Work.{IsCovered, HasApplied}
+use Rattle.edge_state.specs.Work.{IsCovered, IsNeeded, HasApplied}
 use Rattle.edge_state.proofs.Touched.{adds_more}
+use Rattle.edge_state.proofs.Needed.{needed_less}
 
 -- nothing was done, and nothing was to be done
 pub worked_none : (instance : PlainInstance) (s : PlainEdges) (R : Rule → Type 0)
@@ -30,7 +31,7 @@ worked_none instance s R h = record {
 pub covered_no_instance : (instance : PlainInstance) (X : Exclusions) (es : List Exclusion) (rule : Rule)
     → (IsRuleInstance instance rule → ⊥)
     → IsCovered instance X es rule
-covered_no_instance instance X es rule fails = record { holds = λ i u v r add. go i u v r add }
+covered_no_instance instance X es rule fails = record { holds = λ i u v r add need. go i u v r add }
   where
     go : (i u v : ℕ) (r : Rel) → Adds instance X rule i u v r → excludes es i u v r ≡ true
     go _ _ _ _ (added r is p c) = absurd (fails is)
@@ -39,7 +40,7 @@ covered_no_instance instance X es rule fails = record { holds = λ i u v r add. 
 -- nor does one whose premises fail
 pub covered_not : (instance : PlainInstance) (X : Exclusions) (es : List Exclusion) (rule : Rule)
     → (Premises instance X rule → ⊥) → IsCovered instance X es rule
-covered_not instance X es rule fails = record { holds = λ i u v r add. go i u v r add }
+covered_not instance X es rule fails = record { holds = λ i u v r add need. go i u v r add }
   where
     go : (i u v : ℕ) (r : Rel) → Adds instance X rule i u v r → excludes es i u v r ≡ true
     go _ _ _ _ (added r is p c) = absurd (fails p)
@@ -49,11 +50,12 @@ covered_not instance X es rule fails = record { holds = λ i u v r add. go i u v
 pub covered_if : (instance : PlainInstance) (X : Exclusions) (es : List Exclusion) (rule : Rule)
     → (IsRuleInstance instance rule → IsCovered instance X es rule)
     → IsCovered instance X es rule
-covered_if instance X es rule h = record { holds = λ i u v r add. go i u v r add }
+covered_if instance X es rule h = record { holds = λ i u v r add need. go i u v r add need }
   where
-    go : (i u v : ℕ) (r : Rel) → Adds instance X rule i u v r → excludes es i u v r ≡ true
-    go i u v r (added s is p c) = (h is).holds _ _ _ _ (added s is p c)
-    go i u v r (mirror_added s is p c) = (h is).holds _ _ _ _ (mirror_added s is p c)
+    go : (i u v : ℕ) (r : Rel) → Adds instance X rule i u v r → IsNeeded (excludes es) rule r
+        → excludes es i u v r ≡ true
+    go i u v r (added s is p c) need = (h is).holds _ _ _ _ (added s is p c) need
+    go i u v r (mirror_added s is p c) need = (h is).holds _ _ _ _ (mirror_added s is p c) need
 
 -- a rule was applied, and no mask of its edge is lost
 pub worked_applied : (instance : PlainInstance) (a b : PlainEdges) (x : Bool) (rule : Rule)
@@ -66,7 +68,7 @@ worked_applied instance a b x rule e h = record {
   extends = h.step.extends;
   empty = λ f. absurd (true≢false (sym f));
   done = λ f s is. subst (λ (t : Rule). IsCovered instance (excludes a.trail) b.trail t) (sym is)
-      (record { holds = λ i u v r add. (h.exact i u v r).1 (inr add) });
+      (record { holds = λ i u v r add need. (h.exact i u v r).1 (inr add) });
 }
 
 -- fewer instances
@@ -97,12 +99,13 @@ worked_then instance a b c lost R S h k = record {
   where
     go : lost ≡ false → (rule : Rule) → R rule ⊎ S rule → IsCovered instance (excludes a.trail) c.trail rule
     go e rule (inl r) = record {
-      holds = λ i u v x add. k.extends.kept i u v x
-          ((h.done refl rule r).holds i u v x add);
+      holds = λ i u v x add need. k.extends.kept i u v x
+          ((h.done refl rule r).holds i u v x add
+          (needed_less (excludes b.trail) (excludes c.trail) k.extends.kept rule x need));
     }
     go e rule (inr s) = record {
-      holds = λ i u v x add. (k.done e rule s).holds i u v x
-          (adds_more instance (excludes a.trail) (excludes b.trail) h.extends.kept rule i u v x add);
+      holds = λ i u v x add need. (k.done e rule s).holds i u v x
+          (adds_more instance (excludes a.trail) (excludes b.trail) h.extends.kept rule i u v x add) need;
     }
 
 -- one more of a range

@@ -16,7 +16,6 @@ use Rattle.packing_terms.specs.Rules.{Rule, Pair, Apart, Triple, Chain, Compose,
 use Rattle.packing_terms.specs.Applied.{Adds, Extends}
 use Rattle.packing_terms.specs.Places.{HasNoEmptyMask}
 use Rattle.edge_state.specs.Edges.{PlainEdges}
-use Rattle.edge_state.specs.Answers.{IsChangeAfter}
 use Rattle.edge_state.specs.BitRows.{row_has}
 use Rattle.edge_state.specs.States.{HasEmptyMask}
 
@@ -77,9 +76,19 @@ IsDueAt fresh j p q (Order i a b c d) =
 abbrev pub IsDue : (fresh : Rel → Bool) → ℕ → ℕ → ℕ → Rule → Type 0
 IsDue fresh j p q rule = IsDueAt fresh j p q rule ⊎ IsDueAt (λ r. fresh (mirror r)) j q p rule
 
--- what the instance adds by the exclusions that were looked at is excluded
+-- Whether an instance is needed for a relation, as long as this is excluded. ORDER is only for
+-- overlap, while overlap is left of its first and its last box, of its second and its last, and of
+-- its first and its third: all else that it adds, COMPOSE adds too (`order_by_compose`). Overlap
+-- doesn't come back, so an instance that isn't needed is never needed again.
+abbrev pub IsNeeded : Exclusions → Rule → Rel → Type 0
+IsNeeded X (Order i a b c d) r =
+    (r ≡ Overlap) × (X i a d Overlap ≡ false) × (X i b d Overlap ≡ false) × (X i a c Overlap ≡ false)
+IsNeeded X _ r = Unit {0}
+
+-- what the instance adds by the exclusions that were looked at is excluded, as far as it is needed
 pub record IsCovered (instance : PlainInstance) (seen : Exclusions) (es : List Exclusion) (rule : Rule) : Type 0 where
-  pub holds : (i u v : ℕ) (r : Rel) → Adds instance seen rule i u v r → IsTrue (excludes es i u v r)
+  pub holds : (i u v : ℕ) (r : Rel) → Adds instance seen rule i u v r → IsNeeded (excludes es) rule r
+      → IsTrue (excludes es i u v r)
 
 -- the instance adds nothing
 abbrev pub IsExhausted : PlainInstance → List Exclusion → Rule → Type 0
@@ -118,13 +127,10 @@ pub record IsUnordered (X : Exclusions) (e : Exclusion) : Type 0 where
   pub forth : IsTrue (X e.dim e.u e.v Overlap) → IsTrue (X e.dim e.u e.v After) → ⊥
   pub back : IsTrue (X e.dim e.v e.u Overlap) → IsTrue (X e.dim e.v e.u After) → ⊥
 
--- The position behind the next exclusion of the list, or behind two that stand together and are at
--- one edge; each of them is of a fresh relation.
-pub data IsNextMark (es : List Exclusion) (mark : ℕ) (e : Exclusion) (fresh : Rel → Bool) (next : ℕ) :
-    Type 0 where
-  behind_one : next ≡ mark + 1 → fresh e.rel ≡ true → IsNextMark es mark e fresh next
-  behind_two : (f : Exclusion) → IsChangeAfter es (mark + 1) f next → f.dim ≡ e.dim → f.u ≡ e.u → f.v ≡ e.v
-      → fresh e.rel ≡ true → fresh f.rel ≡ true → IsNextMark es mark e fresh next
+-- the position after the next exclusion, which is of a fresh relation
+pub record IsNextMark (mark : ℕ) (e : Exclusion) (fresh : Rel → Bool) (next : ℕ) : Type 0 where
+  pub counted : next ≡ mark + 1
+  pub new : fresh e.rel ≡ true
 
 -- What was looked through of a list: no rule adds anything by it but CHAIN in the dimensions of a
 -- row.

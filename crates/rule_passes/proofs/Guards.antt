@@ -11,6 +11,7 @@ use Rattle.packing_terms.specs.Rules.{Rule, Compose, IsRuleInstance, Premises}
 use Rattle.edge_state.specs.Edges.{PlainEdges}
 use Rattle.edge_state.specs.Work.{HasApplied, IsCovered, IsDueAt, IsDue}
 use Rattle.edge_state.specs.Instances.{DueAll, Composes, OrdersCrossed}
+use Rattle.edge_state.proofs.Needed.{needed_less}
 use Rattle.edge_state.proofs.Instances.{worked_reached}
 use Rattle.edge_state.proofs.Members.{covered_named}
 use Rattle.edge_state.proofs.Worked.{covered_if, covered_not, worked_as, worked_none}
@@ -51,7 +52,10 @@ worked_beside instance a b lost R S f h = record {
     go : lost ≡ false → (rule : Rule) → R rule ⊎ IsCovered instance (excludes a.trail) a.trail rule
         → IsCovered instance (excludes a.trail) b.trail rule
     go e rule (inl r) = h.done e rule r
-    go e rule (inr k) = record { holds = λ i u v r add. h.extends.kept i u v r (k.holds i u v r add) }
+    go e rule (inr k) = record {
+      holds = λ i u v r add need. h.extends.kept i u v r
+          (k.holds i u v r add (needed_less (excludes a.trail) (excludes b.trail) h.extends.kept rule r need));
+    }
 
 clash : (b x : Bool) → b ≡ not x → b ≡ true → x ≡ true → ⊥
 clash b true e h g = true≢false (sym h ∙ e)

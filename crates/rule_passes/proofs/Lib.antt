@@ -2,7 +2,6 @@ mod Compositions
 mod CycleRows
 mod Guards
 mod Quiet
-mod Stale
 mod RowRules
 mod RowStates
 pub mod Levels

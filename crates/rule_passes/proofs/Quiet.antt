@@ -29,13 +29,13 @@ use Rattle.rule_passes.proofs.Guards.{GuardedBoth, worked_guarded}
 -- APART adds the same with its boxes swapped
 covered_apart_back : (instance : PlainInstance) (old es : List Exclusion) (i u v : ℕ)
     → IsCovered instance (excludes old) es (Apart i u v) → IsCovered instance (excludes old) es (Apart i v u)
-covered_apart_back instance old es i u v h = record { holds = λ k a b r add. go k a b r add }
+covered_apart_back instance old es i u v h = record { holds = λ k a b r add need. go k a b r add }
   where
     excluded : IsRuleInstance instance (Apart i v u) → Premises instance (excludes old) (Apart i v u)
         → excludes es i u v Overlap ≡ true
     excluded is p = h.holds i u v Overlap
         (added Overlap (is.0, (is.1.2.0, (λ e. is.1.1.0 (sym e), tt), (is.1.0, tt, tt)))
-        (λ j l ne. joined_back old j v u (p j l ne)) refl)
+        (λ j l ne. joined_back old j v u (p j l ne)) refl) tt
 
     go : (k a b : ℕ) (r : Rel) → Adds instance (excludes old) (Apart i v u) k a b r → excludes es k a b r ≡ true
     go _ _ _ _ (added r is p c) = subst (λ (s : Rel). excludes es i v u s ≡ true) (sym c)

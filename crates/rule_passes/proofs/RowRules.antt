@@ -40,7 +40,7 @@ pub covered_shut : (instance : PlainInstance) (old new : List Exclusion) (rule :
     → (IsRuleInstance instance rule → Premises instance (excludes old) rule → (r : Rel)
     → Concludes (excludes old) rule r → excludes new (dim_of rule) (first_of rule) (second_of rule) r ≡ true)
     → IsCovered instance (excludes old) new rule
-covered_shut instance old new rule h = record { holds = λ i u v r add. go i u v r add }
+covered_shut instance old new rule h = record { holds = λ i u v r add need. go i u v r add }
   where
     go : (i u v : ℕ) (r : Rel) → Adds instance (excludes old) rule i u v r → excludes new i u v r ≡ true
     go _ _ _ _ (added r is p c) = h is p r c

@@ -132,3 +132,8 @@ left_some n i u v X o b a any eo eb ea e on = outer (or_cases _ _ (sym e ∙ on)
     outer : ((o || b) ≡ true) ⊎ (a ≡ true) → (r : Rel) × (X i u v r ≡ false)
     outer (inl h) = inner (or_cases _ _ h)
     outer (inr h) = (After, row_open n i u v X After a ea h)
+
+-- what is in one of two rows and not in both isn't in the other
+pub off_with : (a b : Bool) → a ≡ true → (a && b) ≡ false → b ≡ false
+off_with true b on h = h
+off_with false b on h = absurd (true≢false (sym on))

@@ -1,5 +1,5 @@
 //! Whole rows: the boxes at which a rule may have something to exclude.
-ghost use Rattle.std.specs.Prelude.{◌≡◌, ◌<◌, ◌&&◌, ℕ, true, false, not, nat_lt, IsTrue};
+ghost use Rattle.std.specs.Prelude.{◌≡◌, ◌<◌, ◌⊎◌, ◌&&◌, ℕ, true, false, not, nat_lt, IsTrue};
 ghost use Rattle.packing_terms.specs.declared.Rel.{Rel as PlainRel};
 ghost use Rattle.packing_terms.specs.declared.Rel.TheVariants.{Overlap, Before, After};
 ghost use Rattle.packing_terms.specs.Packing.{box_count};
@@ -223,9 +223,9 @@ pub(crate) fn beyond_orders_from<const K: usize>(
     requires words { HoldsBoxes K (box_count instance.now) }
     requires d { d < box_count instance.now }
     requires within { (c : ℕ) → row_has free c ≡ true → c < box_count instance.now }
-    requires free { (c : ℕ) → c < box_count instance.now → (b ≡ c → ⊥) → row_has free c ≡ false
-        → IsTrue (excludes state.now.trail dim b c Overlap)
-        × IsTrue (excludes state.now.trail dim b c Before) }
+    requires free { (c : ℕ) → c < box_count instance.now → (b ≡ c → ⊥) → (a ≡ c → ⊥)
+        → row_has free c ≡ false → IsTrue (excludes state.now.trail dim b c Overlap)
+        ⊎ IsTrue (excludes state.now.trail dim a c Overlap) }
     requires last { (c : ℕ) → row_has last c ≡ true
         → IsTrue (excludes state.now.trail dim d c Overlap)
         → IsTrue (excludes state.now.trail dim d c Before) → ⊥ }
@@ -252,9 +252,9 @@ pub(crate) fn beyond_orders_to<const K: usize>(
     requires words { HoldsBoxes K (box_count instance.now) }
     requires a { a < box_count instance.now }
     requires within { (b : ℕ) → row_has free b ≡ true → b < box_count instance.now }
-    requires free { (b : ℕ) → b < box_count instance.now → (c ≡ b → ⊥) → row_has free b ≡ false
-        → IsTrue (excludes state.now.trail dim c b Overlap)
-        × IsTrue (excludes state.now.trail dim c b After) }
+    requires free { (b : ℕ) → b < box_count instance.now → (c ≡ b → ⊥) → (d ≡ b → ⊥)
+        → row_has free b ≡ false → IsTrue (excludes state.now.trail dim c b Overlap)
+        ⊎ IsTrue (excludes state.now.trail dim d b Overlap) }
     requires first { (b : ℕ) → row_has first b ≡ true
         → IsTrue (excludes state.now.trail dim a b Overlap)
         → IsTrue (excludes state.now.trail dim a b After) → ⊥ }

@@ -2,6 +2,7 @@
 //!
 //! Each call answers whether a mask is empty, and stops there.
 ghost use Rattle.std.specs.Prelude.{◌≡◌, ◌<◌, ℕ, true, false, IsTrue};
+ghost use Rattle.packing_terms.specs.declared.Rel.TheVariants.{Overlap};
 ghost use Rattle.packing_terms.specs.Packing.{box_count};
 ghost use Rattle.packing_terms.specs.Exclusions.{excludes};
 ghost use Rattle.packing_terms.specs.Rules.{Follows};
@@ -103,6 +104,36 @@ pub(crate) fn exclude_between<const K: usize>(
         rest = rest.without(u);
         let open = either::<K>(instance, state, dim, u, first, second);
         if exclude_both(instance, state, dim, u, first, second, open.and(to)) {
+            return true;
+        }
+    }
+    false
+}
+
+/// Excludes overlap between each box of a row and each other box of a second row.
+#[inline(always)]
+pub(crate) fn exclude_overlaps<const K: usize>(
+    instance: &Instance,
+    state: &mut EdgeState,
+    dim: u32,
+    from: BitRow<K>,
+    to: BitRow<K>,
+) -> bool
+    requires words { HoldsBoxes K (box_count instance.now) }
+    requires sizes { IsSized instance.now state.old dim }
+    requires from { (u : ℕ) → row_has from u ≡ true → u < box_count instance.now }
+    requires to { (v : ℕ) → row_has to v ≡ true → v < box_count instance.now }
+    requires follows { (u v : ℕ) → row_has from u ≡ true → row_has to v ≡ true → (u ≡ v → ⊥)
+        → Follows instance.now (excludes state.old.trail) dim u v Overlap }
+    ensures worked { HasApplied instance.now state.old state.new result NoRule }
+    ensures excluded { result ≡ false → (u v : ℕ) → row_has from.entry u ≡ true
+        → row_has to.entry v ≡ true → (u ≡ v → ⊥)
+        → IsTrue (excludes state.new.trail dim u v Overlap) }
+{
+    let mut rest = from;
+    while let Some(u) = rest.first() {
+        rest = rest.without(u);
+        if exclude_each(instance, state, dim, u, Rel::Overlap, to.without(u)) {
             return true;
         }
     }

@@ -1,16 +1,18 @@
 //! ORDER for a changed edge: each call answers whether a mask is empty, and stops there.
-ghost use Rattle.std.specs.Prelude.{◌≡◌, ◌<◌, ℕ, true, false, nat_lt};
+ghost use Rattle.std.specs.Prelude.{◌≡◌, ◌<◌, ℕ, true, false, nat_lt, IsTrue};
 ghost use Rattle.packing_terms.specs.Packing.{box_count};
-ghost use Rattle.packing_terms.specs.Exclusions.{excludes};
+ghost use Rattle.packing_terms.specs.declared.Rel.TheVariants.{Overlap};
+ghost use Rattle.packing_terms.specs.Exclusions.{excludes, IsSurelyBefore};
 ghost use Rattle.packing_terms.specs.Rules.{Order};
 ghost use Rattle.edge_state.specs.BitRows.{HoldsBoxes, row_has};
+ghost use Rattle.edge_state.specs.Edges.{is_other_box};
 ghost use Rattle.edge_state.specs.Instances.{OrdersFirst, OrdersSecond, OrdersCrossed};
 ghost use Rattle.edge_state.specs.States.{IsSized};
 ghost use Rattle.edge_state.specs.Work.{IsCovered, HasApplied};
 
 use crate::candidates::{beyond_orders_from, beyond_orders_to};
-use crate::excluding::{exclude_between, exclude_both};
-use crate::rows::{either, gone, gone_of_any, is_empty};
+use crate::excluding::{exclude_each, exclude_overlaps};
+use crate::rows::{either, gone, gone_of_any, is_empty, near_both, near_both_without};
 use box_instances::Instance;
 use edge_state::{BitRow, EdgeState, Rel};
 
@@ -33,7 +35,7 @@ fn may_order_lasts<const K: usize>(
         → c < box_count instance.now
         → IsCovered instance.now (excludes state.now.trail) state.now.trail (Order dim a b c d) }
 {
-    let free = either::<K>(instance, state, dim, b, Rel::Overlap, Rel::Before);
+    let free = near_both::<K>(instance, state, dim, b, a);
     let mut rest = lasts;
     while let Some(d) = rest.first() {
         rest = rest.without(d);
@@ -64,7 +66,7 @@ fn may_order_firsts<const K: usize>(
         → b < box_count instance.now
         → IsCovered instance.now (excludes state.now.trail) state.now.trail (Order dim a b c d) }
 {
-    let free = either::<K>(instance, state, dim, c, Rel::Overlap, Rel::After);
+    let free = near_both::<K>(instance, state, dim, c, d);
     let mut rest = firsts;
     while let Some(a) = rest.first() {
         rest = rest.without(a);
@@ -74,6 +76,66 @@ fn may_order_firsts<const K: usize>(
         }
     }
     false
+}
+
+// The boxes that the first box is surely before, and with which the last may overlap.
+#[inline(always)]
+fn seconds_after<const K: usize>(
+    instance: &Instance,
+    state: &EdgeState,
+    all: BitRow<K>,
+    dim: u32,
+    a: u32,
+    d: u32,
+) -> BitRow<K>
+    requires words { HoldsBoxes K (box_count instance.now) }
+    requires sizes { IsSized instance.now state.now dim }
+    requires a { a < box_count instance.now }
+    requires d { d < box_count instance.now }
+    requires all { (x : ℕ) → row_has all x ≡ nat_lt x (box_count instance.now) }
+    ensures within { (b : ℕ) → row_has result b ≡ true → b < box_count instance.now }
+    ensures first { (b : ℕ) → row_has result b ≡ true → a ≡ b → ⊥ }
+    ensures last { (b : ℕ) → row_has result b ≡ true
+        → is_other_box (box_count instance.now) d b ≡ true }
+    ensures sure { (b : ℕ) → row_has result b ≡ true
+        → IsSurelyBefore (excludes state.now.trail) dim a b }
+    ensures others { (b : ℕ) → b < box_count instance.now → (a ≡ b → ⊥) → (d ≡ b → ⊥)
+        → row_has result b ≡ false → IsSurelyBefore (excludes state.now.trail) dim a b
+        → IsTrue (excludes state.now.trail dim d b Overlap) }
+{
+    let after = gone(instance, state, all, dim, a, Rel::Overlap, Rel::After);
+    let near = state.row_in::<K>(dim, d, Rel::Overlap);
+    after.and(near)
+}
+
+// The boxes that are surely before the last box, and with which the first may overlap.
+#[inline(always)]
+fn thirds_before<const K: usize>(
+    instance: &Instance,
+    state: &EdgeState,
+    all: BitRow<K>,
+    dim: u32,
+    a: u32,
+    d: u32,
+) -> BitRow<K>
+    requires words { HoldsBoxes K (box_count instance.now) }
+    requires sizes { IsSized instance.now state.now dim }
+    requires a { a < box_count instance.now }
+    requires d { d < box_count instance.now }
+    requires all { (x : ℕ) → row_has all x ≡ nat_lt x (box_count instance.now) }
+    ensures within { (c : ℕ) → row_has result c ≡ true → c < box_count instance.now }
+    ensures last { (c : ℕ) → row_has result c ≡ true → d ≡ c → ⊥ }
+    ensures first { (c : ℕ) → row_has result c ≡ true
+        → is_other_box (box_count instance.now) a c ≡ true }
+    ensures sure { (c : ℕ) → row_has result c ≡ true
+        → IsSurelyBefore (excludes state.now.trail) dim c d }
+    ensures others { (c : ℕ) → c < box_count instance.now → (a ≡ c → ⊥) → (d ≡ c → ⊥)
+        → row_has result c ≡ false → IsSurelyBefore (excludes state.now.trail) dim c d
+        → IsTrue (excludes state.now.trail dim a c Overlap) }
+{
+    let before = gone(instance, state, all, dim, d, Rel::Overlap, Rel::Before);
+    let near = state.row_in::<K>(dim, a, Rel::Overlap);
+    before.and(near)
 }
 
 // Whether ORDER may exclude something with its first and its last box, for one of the second ones.
@@ -98,16 +160,15 @@ fn may_order_seconds<const K: usize>(
         → c < box_count instance.now
         → IsCovered instance.now (excludes state.now.trail) state.now.trail (Order dim a b c d) }
 {
-    let thirds = gone(instance, state, all, dim, d, Rel::Overlap, Rel::Before);
+    let thirds = thirds_before(instance, state, all, dim, a, d);
     if is_empty(thirds) {
         return false;
     }
-    let last = either::<K>(instance, state, dim, d, Rel::Overlap, Rel::Before);
     let mut rest = seconds;
     while let Some(b) = rest.first() {
         rest = rest.without(b);
-        let free = either::<K>(instance, state, dim, b, Rel::Overlap, Rel::Before);
-        if !is_empty(beyond_orders_from(instance, state, dim, a, b, d, free, last)) {
+        let near = state.row_in::<K>(dim, b, Rel::Overlap);
+        if !is_empty(near.and(thirds)) {
             return true;
         }
     }
@@ -133,7 +194,7 @@ pub(crate) fn may_order_first<const K: usize>(
     ensures { result ≡ false → HasApplied instance.now state.now state.now false
         (OrdersFirst instance.now dim a b) }
 {
-    let lasts = gone(instance, state, all, dim, a, Rel::Before, Rel::Before);
+    let lasts = near_both_without::<K>(instance, state, dim, a, b, Rel::Before);
     may_order_lasts(instance, state, dim, a, b, lasts)
 }
 
@@ -163,19 +224,10 @@ pub(crate) fn orders_first<const K: usize>(
     if !state.sure_before_in::<K>(dim, a, b) {
         return false;
     }
-    let lasts = gone(instance, state, all, dim, a, Rel::Before, Rel::Before);
-    let thirds = gone_of_any(
-        instance,
-        state,
-        all,
-        dim,
-        lasts.without(b),
-        Rel::Overlap,
-        Rel::Before,
-    );
-    let open = either::<K>(instance, state, dim, b, Rel::Overlap, Rel::Before);
-    let row = thirds.and(open).without(a);
-    exclude_both(instance, state, dim, b, Rel::Overlap, Rel::Before, row)
+    let lasts = near_both_without::<K>(instance, state, dim, a, b, Rel::Before);
+    let thirds = gone_of_any(instance, state, all, dim, lasts, Rel::Overlap, Rel::Before);
+    let open = near_both(instance, state, dim, b, a);
+    exclude_each(instance, state, dim, b, Rel::Overlap, thirds.and(open))
 }
 
 /// Whether ORDER may exclude something with the second pair given.
@@ -197,7 +249,7 @@ pub(crate) fn may_order_second<const K: usize>(
     ensures { result ≡ false → HasApplied instance.now state.now state.now false
         (OrdersSecond instance.now dim c d) }
 {
-    let firsts = gone(instance, state, all, dim, d, Rel::After, Rel::After);
+    let firsts = near_both_without::<K>(instance, state, dim, d, c, Rel::After);
     may_order_firsts(instance, state, dim, c, d, firsts)
 }
 
@@ -227,19 +279,10 @@ pub(crate) fn orders_second<const K: usize>(
     if !state.sure_before_in::<K>(dim, c, d) {
         return false;
     }
-    let firsts = gone(instance, state, all, dim, d, Rel::After, Rel::After);
-    let seconds = gone_of_any(
-        instance,
-        state,
-        all,
-        dim,
-        firsts.without(c),
-        Rel::Overlap,
-        Rel::After,
-    );
-    let open = either::<K>(instance, state, dim, c, Rel::Overlap, Rel::After);
-    let row = seconds.and(open).without(d);
-    exclude_both(instance, state, dim, c, Rel::Overlap, Rel::After, row)
+    let firsts = near_both_without::<K>(instance, state, dim, d, c, Rel::After);
+    let seconds = gone_of_any(instance, state, all, dim, firsts, Rel::Overlap, Rel::After);
+    let open = near_both(instance, state, dim, c, d);
+    exclude_each(instance, state, dim, c, Rel::Overlap, seconds.and(open))
 }
 
 /// Whether ORDER may exclude something with the first and the last box given.
@@ -261,7 +304,11 @@ pub(crate) fn may_order_crossed<const K: usize>(
     ensures { result ≡ false → HasApplied instance.now state.now state.now false
         (OrdersCrossed instance.now dim a d) }
 {
-    let seconds = gone(instance, state, all, dim, a, Rel::Overlap, Rel::After);
+    let near = state.row_in::<K>(dim, a, Rel::Overlap);
+    if !near.has(d) {
+        return false;
+    }
+    let seconds = seconds_after(instance, state, all, dim, a, d);
     may_order_seconds(instance, state, all, dim, a, d, seconds)
 }
 
@@ -291,15 +338,7 @@ pub(crate) fn orders_crossed<const K: usize>(
     if state.mask_in::<K>(dim, a, d).has(Rel::Before) {
         return false;
     }
-    let seconds = gone(instance, state, all, dim, a, Rel::Overlap, Rel::After);
-    let thirds = gone(instance, state, all, dim, d, Rel::Overlap, Rel::Before);
-    exclude_between(
-        instance,
-        state,
-        dim,
-        seconds.without(d),
-        thirds.without(a),
-        Rel::Overlap,
-        Rel::Before,
-    )
+    let seconds = seconds_after(instance, state, all, dim, a, d);
+    let thirds = thirds_before(instance, state, all, dim, a, d);
+    exclude_overlaps(instance, state, dim, seconds, thirds)
 }

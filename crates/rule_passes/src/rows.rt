@@ -1,5 +1,6 @@
 //! Rows of boxes: those for which relations to one box are left or gone.
-ghost use Rattle.std.specs.Prelude.{◌≡◌, ◌<◌, ◌&&◌, ◌||◌, ℕ, true, false, nat_lt, IsTrue};
+ghost use Rattle.std.specs.Prelude.{◌≡◌, ◌<◌, ◌⊎◌, ◌&&◌, ◌||◌, ℕ, true, false, nat_lt, IsTrue};
+ghost use Rattle.packing_terms.specs.declared.Rel.TheVariants.{Overlap};
 ghost use Rattle.packing_terms.specs.Packing.{box_count};
 ghost use Rattle.packing_terms.specs.Exclusions.{excludes};
 ghost use Rattle.packing_terms.specs.Limits.{IsBoxCount};
@@ -113,6 +114,64 @@ pub(crate) fn gone<const K: usize>(
 {
     let left = either::<K>(instance, state, dim, u, first, second);
     all.minus(left).without(u)
+}
+
+/// The boxes with which both `u` and `v` may overlap.
+#[inline(always)]
+pub(crate) fn near_both<const K: usize>(
+    instance: &Instance,
+    state: &EdgeState,
+    dim: u32,
+    u: u32,
+    v: u32,
+) -> BitRow<K>
+    requires words { HoldsBoxes K (box_count instance.now) }
+    requires sizes { IsSized instance.now state.now dim }
+    requires u { u < box_count instance.now }
+    requires v { v < box_count instance.now }
+    ensures within { (x : ℕ) → row_has result x ≡ true → x < box_count instance.now }
+    ensures first { (x : ℕ) → row_has result x ≡ true
+        → is_other_box (box_count instance.now) u x ≡ true }
+    ensures second { (x : ℕ) → row_has result x ≡ true
+        → is_other_box (box_count instance.now) v x ≡ true }
+    ensures others { (x : ℕ) → x < box_count instance.now → (u ≡ x → ⊥) → (v ≡ x → ⊥)
+        → row_has result x ≡ false → IsTrue (excludes state.now.trail dim u x Overlap)
+        ⊎ IsTrue (excludes state.now.trail dim v x Overlap) }
+{
+    let first = state.row_in::<K>(dim, u, Rel::Overlap);
+    let second = state.row_in::<K>(dim, v, Rel::Overlap);
+    first.and(second)
+}
+
+/// Those of them to which `u` no longer has a relation.
+#[inline(always)]
+pub(crate) fn near_both_without<const K: usize>(
+    instance: &Instance,
+    state: &EdgeState,
+    dim: u32,
+    u: u32,
+    v: u32,
+    rel: Rel,
+) -> BitRow<K>
+    requires words { HoldsBoxes K (box_count instance.now) }
+    requires sizes { IsSized instance.now state.now dim }
+    requires u { u < box_count instance.now }
+    requires v { v < box_count instance.now }
+    ensures within { (x : ℕ) → row_has result x ≡ true → x < box_count instance.now }
+    ensures first { (x : ℕ) → row_has result x ≡ true
+        → is_other_box (box_count instance.now) u x ≡ true }
+    ensures second { (x : ℕ) → row_has result x ≡ true
+        → is_other_box (box_count instance.now) v x ≡ true }
+    ensures excluded { (x : ℕ) → row_has result x ≡ true
+        → IsTrue (excludes state.now.trail dim u x rel) }
+    ensures others { (x : ℕ) → x < box_count instance.now → (u ≡ x → ⊥) → (v ≡ x → ⊥)
+        → row_has result x ≡ false → IsTrue (excludes state.now.trail dim u x rel)
+        → IsTrue (excludes state.now.trail dim u x Overlap)
+        ⊎ IsTrue (excludes state.now.trail dim v x Overlap) }
+{
+    let near = near_both::<K>(instance, state, dim, u, v);
+    let left = state.row_in::<K>(dim, u, rel);
+    near.minus(left)
 }
 
 /// The boxes for which both relations to some other member of a row are excluded.

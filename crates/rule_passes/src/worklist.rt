@@ -19,22 +19,14 @@ use box_instances::Instance;
 use early_chains::{ChainEstimates, apply_long_chain};
 use edge_state::{BitRow, EdgeState, Exclusion, Mark, Mask, Rel};
 
-// The position of the list behind a change, and behind the next one too if that is at the same
-// edge: a rule that leaves one relation makes two changes, which are looked through together.
-// Beside it the relations whose exclusion is stale: those that neither change excludes.
+// The position of the list after a change. Beside it the relations whose exclusion is stale: all but
+// the one that the change excludes.
+#[inline(always)]
 fn behind(state: &EdgeState, mark: Mark, change: Exclusion) -> (Mark, Mask)
     requires { IsChangeAfter state.now.trail mark change (mark + 1) }
-    ensures { IsNextMark state.now.trail mark change (λ r. not (mask_has result.1 r)) result.0 }
+    ensures { IsNextMark mark change (λ r. not (mask_has result.1 r)) result.0 }
 {
-    let after = state.mark_after(mark);
-    let stale = Mask::all().without(change.rel);
-    let Some(next) = state.change_after(after) else {
-        return (after, stale);
-    };
-    if next.dim != change.dim || next.u != change.u || next.v != change.v {
-        return (after, stale);
-    }
-    (state.mark_after(after), stale.without(next.rel))
+    (state.mark_after(mark), Mask::all().without(change.rel))
 }
 
 // Whether one of the two boxes of a change, whose mask is given, is surely before the other now.

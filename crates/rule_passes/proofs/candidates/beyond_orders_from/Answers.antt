@@ -22,7 +22,7 @@ returns-clause-others g c x small off = go (without_off _ x c.args.d (sym (c.wit
     go (inl f) =
         covered_order_from c.args.instance.now c.args.state.now.trail c.args.dim c.args.a c.args.b x c.args.d _ _
         (sym (c.minus.ensures x) ∙ f)
-        (λ ne f. c.requires.free x small ne f) (λ on. c.requires.last x on)
+        (λ ne na f. c.requires.free x small ne na f) (λ on. c.requires.last x on)
     go (inr e) =
         covered_no_instance c.args.instance.now _ c.args.state.now.trail (Order c.args.dim c.args.a c.args.b x c.args.d)
         (λ is. is.1.2.2.1.0 e)

@@ -22,7 +22,7 @@ returns-clause-others g c x small off = go (without_off _ x c.args.a (sym (c.wit
     go (inl f) =
         covered_order_to c.args.instance.now c.args.state.now.trail c.args.dim c.args.a x c.args.c c.args.d _ _
         (sym (c.minus.ensures x) ∙ f)
-        (λ ne f. c.requires.free x small ne f) (λ on. c.requires.first x on)
+        (λ ne nd f. c.requires.free x small ne nd f) (λ on. c.requires.first x on)
     go (inr e) =
         covered_no_instance c.args.instance.now _ c.args.state.now.trail (Order c.args.dim c.args.a x c.args.c c.args.d)
         (λ is. is.1.1.0 (sym e))

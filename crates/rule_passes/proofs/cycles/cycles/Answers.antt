@@ -57,9 +57,9 @@ returns g c =
     go e x d is p (inr h) k =
         let covered = c.cycle_fourths-fourths.ensures.others d is.1.2.2.2.0 h x in (
           c.exclude_both.ensures.worked.extends.kept c.args.dim c.args.b d Before
-              (covered.holds c.args.dim c.args.b d Before (added Before is p (λ f. before_no_overlap f))),
+              (covered.holds c.args.dim c.args.b d Before (added Before is p (λ f. before_no_overlap f)) tt),
           c.exclude_both.ensures.worked.extends.kept c.args.dim c.args.b d After
-              (covered.holds c.args.dim c.args.b d After (added After is p (λ f. after_no_overlap f))),
+              (covered.holds c.args.dim c.args.b d After (added After is p (λ f. after_no_overlap f)) tt),
         )
 
 pub gone_of_any-closing-requires : goal.gone_of_any-closing-requires

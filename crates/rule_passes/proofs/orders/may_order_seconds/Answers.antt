@@ -1,23 +1,24 @@
-use Rattle.std.proofs.Common.{◌*◌, ◌<◌, ◌∙◌, ℕ, sym}
-use Rattle.std.proofs.lemmas.Bool.{and_parts, true≢false}
+use Rattle.std.proofs.Common.{◌*◌, ◌≡◌, ◌<◌, ◌⊎◌, inl, inr, ◌∙◌, ℕ, sym, true, false}
+use Rattle.std.proofs.lemmas.Bool.{and_parts, true≢false, cases_Bool}
+use Rattle.packing_terms.specs.declared.Rel.TheVariants.{Overlap}
 use Rattle.packing_terms.specs.Packing.{box_count}
 use Rattle.packing_terms.specs.Exclusions.{excludes}
-use Rattle.packing_terms.specs.Rules.{Order}
-use Rattle.edge_state.specs.BitRows.{row_has}
-use Rattle.edge_state.proofs.RowBits.{members_fewer}
-use Rattle.edge_state.specs.Work.{IsCovered}
+use Rattle.packing_terms.specs.Rules.{Order, IsRuleInstance, Premises}
 use Rattle.packing_terms.proofs.Sets.{excludes_symmetric}
-use Rattle.packing_terms.specs.declared.Rel.TheVariants.{Overlap, After}
-use Rattle.edge_state.proofs.Filters.{covered_never}
-use Rattle.edge_state.proofs.Members.{member_next}
+use Rattle.edge_state.specs.BitRows.{row_has}
+use Rattle.edge_state.specs.Work.{IsCovered}
+use Rattle.edge_state.proofs.Kept.{row_shut}
+use Rattle.edge_state.proofs.RowBits.{members_fewer}
+use Rattle.edge_state.proofs.Members.{member_next, both_on}
+use Rattle.edge_state.proofs.Needed.{order_shut}
 use Rattle.rule_passes.proofs.orders.may_order_seconds.Goals as goal
 
 pub returns-then-is_empty : goal.returns-then-is_empty
 returns-then-is_empty g c off x on y small =
-    covered_never c.args.instance.now _ (Order c.args.dim c.args.a x y c.args.d)
-    (λ is p. c.gone-thirds.ensures.others y small (λ e. is.1.2.2.1.0 (sym e)) (c.is_empty.ensures c.if-is_empty.true y)
-    (excludes_symmetric c.args.state.now.trail c.args.dim y c.args.d Overlap p.1.0)
-    (excludes_symmetric c.args.state.now.trail c.args.dim y c.args.d After p.1.1))
+    order_shut c.args.instance.now _ _ c.args.dim c.args.a x y c.args.d
+    (λ is p ad bd ac. absurd (true≢false (sym
+    (c.thirds_before-thirds.ensures.others y small is.1.1.1.0 (λ e. is.1.2.2.1.0 (sym e))
+    (c.is_empty.ensures c.if-is_empty.true y) p.1) ∙ ac)))
 
 pub loop-b-init : goal.loop-b-init
 loop-b-init g c = record { covered = λ x on off. absurd (true≢false (sym on ∙ off)); within = c.requires.within }
@@ -34,9 +35,24 @@ loop-b-preserved g c = record {
       → IsCovered c.args.instance.now (excludes c.args.state.now.trail) c.args.state.now.trail
       (Order c.args.dim c.args.a x y c.args.d))
       c.without-rest.ensures c.loop-b.invariant.covered
-      (λ y small. c.beyond_orders_from.ensures.others y small (c.is_empty-in-Some.ensures c.if-not-is_empty.false y));
+      (λ y small. order_shut c.args.instance.now _ _ c.args.dim c.args.a c.in-Some.b y c.args.d
+      (λ is p ad bd ac. shut y small is p ac (cases_Bool (row_has c.thirds_before-thirds.result y))));
   within = λ x h. c.loop-b.invariant.within x (and_parts _ _ (sym (c.without-rest.ensures x) ∙ h)).0;
 }
+  where
+    shut : (y : ℕ) → y < box_count c.args.instance.now
+        → IsRuleInstance c.args.instance.now (Order c.args.dim c.args.a c.in-Some.b y c.args.d)
+        → Premises c.args.instance.now (excludes c.args.state.now.trail) (Order c.args.dim c.args.a c.in-Some.b y c.args.d)
+        → excludes c.args.state.now.trail c.args.dim c.args.a y Overlap ≡ false
+        → (row_has c.thirds_before-thirds.result y ≡ true) ⊎ (row_has c.thirds_before-thirds.result y ≡ false)
+        → excludes c.args.state.now.trail c.args.dim y c.in-Some.b Overlap ≡ true
+    shut y small is p ac (inl on) =
+        excludes_symmetric c.args.state.now.trail c.args.dim c.in-Some.b y Overlap
+        (row_shut (box_count c.args.instance.now) c.args.dim c.in-Some.b y (excludes c.args.state.now.trail) Overlap
+        _ small is.1.2.1.0 ((rw c.requires.sizes.same_boxes at c.row_in-near.ensures) y)
+        (both_on _ _ on (sym (c.and.ensures y) ∙ c.is_empty-in-Some.ensures c.if-not-is_empty.false y)))
+    shut y small is p ac (inr off) = absurd (true≢false (sym
+        (c.thirds_before-thirds.ensures.others y small is.1.1.1.0 (λ e. is.1.2.2.1.0 (sym e)) off p.1) ∙ ac))
 
 pub returns : goal.returns
 returns g c off x on = c.loop-b.invariant.covered x on (c.in_default.ensures.least x)
