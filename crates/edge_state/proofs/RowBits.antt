@@ -316,16 +316,22 @@ members_fewer p q x n e h l = less (members_below q n) (members_below p n) (memb
     less : (a b : ℕ) → a + 1 ≡ b → a < b
     less a b f = omega (arith, f)
 
+-- a word that isn't 0 has a member
+pub word_has : (ws : List ℕ) (i : ℕ) → 0 < slice_index ws i → slice_index ws i < 2 ^ 64
+    → row_has ws (64 * i + trailing_zeros w64 (slice_index ws i)) ≡ true
+word_has ws i some fits =
+    let low = bit_at-trailing_zeros w64 (slice_index ws i) some fits in
+    let word : (64 * i + trailing_zeros w64 (slice_index ws i)) / 64 ≡ i = omega (arith, low.0) in
+    let bit : (64 * i + trailing_zeros w64 (slice_index ws i)) % 64 ≡ trailing_zeros w64 (slice_index ws i)
+    = omega (arith, low.0) in
+    rw (word, bit, low.1) refl
+
 -- the first word that isn't 0 has the least member
 pub first_has : (ws : List ℕ) (i : ℕ) → ((j : ℕ) → j < i → slice_index ws j ≡ 0) → 0 < slice_index ws i
     → slice_index ws i < 2 ^ 64
     → IsLeastMember ws (64 * i + trailing_zeros w64 (slice_index ws i))
 first_has ws i none some fits = record {
-  there = rw (
-    word_of (trailing_zeros w64 (slice_index ws i)) low.0,
-    bit_of (trailing_zeros w64 (slice_index ws i)) low.0,
-    low.1,
-  ) refl;
+  there = word_has ws i some fits;
   least = λ y h. go y h (cases_lt (y / 64) i);
 }
   where
@@ -333,12 +339,6 @@ first_has ws i none some fits = record {
         × (bit_at (slice_index ws i) (trailing_zeros w64 (slice_index ws i)) ≡ 1)
         × ((j : ℕ) → j < trailing_zeros w64 (slice_index ws i) → bit_at (slice_index ws i) j ≡ 0)
     low = bit_at-trailing_zeros w64 (slice_index ws i) some fits
-
-    word_of : (k : ℕ) → k < 64 → (64 * i + k) / 64 ≡ i
-    word_of k h = omega arith
-
-    bit_of : (k : ℕ) → k < 64 → (64 * i + k) % 64 ≡ k
-    bit_of k h = omega arith
 
     go : (y : ℕ) → y < 64 * i + trailing_zeros w64 (slice_index ws i) → (y / 64 < i) ⊎ (i ≤ y / 64)
         → row_has ws y ≡ false

@@ -1,20 +1,17 @@
 -- A row is its members, excluded one after another.
 use Rattle.std.proofs.Common.{◌≡◌, ℕ, zero, suc, ◌<◌, ◌⊎◌, inl, inr, refl, sym, ap, subst, ◌∙◌, arith, Bool, true, false}
-use Rattle.std.proofs.Common.{◌↔◌, not, cond, eqb, ◌&&◌, ◌||◌, List, [], ◌++◌, append_assoc}
-use Rattle.std.proofs.lemmas.Bool.{cases_Bool, cases_eq, eq-eqb, and_parts}
+use Rattle.std.proofs.Common.{◌↔◌, not, cond, eqb, ◌&&◌, List, [], ◌++◌, append_assoc}
+use Rattle.std.proofs.lemmas.Bool.{cases_Bool, cases_eq, eq-eqb}
 use Rattle.std.proofs.Math.Bool.{and-true}
 use Rattle.packing_terms.specs.declared.Rel.{Rel}
-use Rattle.packing_terms.specs.declared.Rel.TheVariants.{Overlap, Before, After}
 use Rattle.packing_terms.specs.declared.Exclusion.{Exclusion}
 use Rattle.packing_terms.specs.Relations.{mirror}
-use Rattle.packing_terms.specs.Exclusions.{Exclusions, excludes, exclusion_at, is_of}
+use Rattle.packing_terms.specs.Exclusions.{excludes, exclusion_at, is_of}
 use Rattle.packing_terms.specs.Closure.{IsSubset}
 use Rattle.packing_terms.proofs.Sets.{mirror_twice, of_own, excludes_symmetric}
 use Rattle.packing_terms.specs.Steps.{with_exclusion}
 use Rattle.packing_terms.proofs.Applied.{with_cases, with_keeps, with_own}
-use Rattle.edge_state.specs.Answers.{is_empty_mask}
-use Rattle.edge_state.specs.Edges.{is_other_box}
-use Rattle.edge_state.specs.RowExclusions.{with_row, IsTakenAtRow, taken_at, mirror_taken_at, HasEmptyAt}
+use Rattle.edge_state.specs.RowExclusions.{with_row, IsTakenAtRow, taken_at, mirror_taken_at}
 use Rattle.edge_state.proofs.Kept.{with_old, with_more}
 use Rattle.edge_state.proofs.RowBits.{eqb_false}
 
@@ -195,44 +192,6 @@ module _ (i u : ℕ) (r : Rel) where
           (with_cases (with_row es i u r p n) (exclusion_at i u n r) j a b s
           (subst (λ fs. excludes fs j a b s ≡ true) (step_on es p n on) h)) rest
       go (inr off) rest = lift (rest (subst (λ fs. excludes fs j a b s ≡ true) (step_off es p n off) h))
-
--- a member of a row that none of three rows has
-three_gone : (x y z : Bool) → not ((not x || not y) || not z) ≡ x && y && z
-three_gone true true true = refl
-three_gone true true false = refl
-three_gone true false true = refl
-three_gone true false false = refl
-three_gone false true true = refl
-three_gone false true false = refl
-three_gone false false true = refl
-three_gone false false false = refl
-
-pub empty_where_gone : (X : Exclusions) (n i u v : ℕ) (o b a first left member out : Bool)
-    → (member ≡ true → is_other_box n u v ≡ true)
-    → o ≡ is_other_box n u v && not (X i u v Overlap) → b ≡ is_other_box n u v && not (X i u v Before)
-    → a ≡ is_other_box n u v && not (X i u v After) → first ≡ o || b → left ≡ first || a → out ≡ member && not left
-    → member ≡ true → out ≡ is_empty_mask X i u v
-empty_where_gone X n i u v o b a first left member out other eo eb ea ef el eout on =
-    rw (eout, el, ef, eo, eb, ea, other on, on)
-    (three_gone (X i u v Overlap) (X i u v Before) (X i u v After))
-
--- a member whose mask is empty is what was found
-pub empty_found : (X : Exclusions) (n i u : ℕ) (row o b a first left out : ℕ → Bool)
-    → ((v : ℕ) → row v ≡ true → is_other_box n u v ≡ true)
-    → ((v : ℕ) → o v ≡ is_other_box n u v && not (X i u v Overlap))
-    → ((v : ℕ) → b v ≡ is_other_box n u v && not (X i u v Before))
-    → ((v : ℕ) → a v ≡ is_other_box n u v && not (X i u v After)) → ((v : ℕ) → first v ≡ o v || b v)
-    → ((v : ℕ) → left v ≡ first v || a v) → ((v : ℕ) → out v ≡ row v && not (left v))
-    → (v : ℕ) → out v ≡ true → HasEmptyAt X i u row
-empty_found X n i u row o b a first left out members eo eb ea ef el eout v h = record {
-  box = v;
-  member = on;
-  empty = sym (empty_where_gone X n i u v (o v) (b v) (a v) (first v) (left v) (row v) (out v) (members v) (eo v) (eb v)
-      (ea v) (ef v) (el v) (eout v) on) ∙ h;
-}
-  where
-    on : row v ≡ true
-    on = (and_parts _ _ (sym (eout v) ∙ h)).0
 
 -- exactly what was excluded, and the row with its mirrors
 pub row_exactly : (i u : ℕ) (r : Rel) (es : List Exclusion) (p : ℕ → Bool) (n j a b : ℕ) (s : Rel)

@@ -153,6 +153,20 @@ impl<const K: usize> BitRow<K> {
         BitRow { words }
     }
 
+    /// Whether no number is in the set. The words are joined, so that no branch is taken for each.
+    #[inline]
+    pub fn is_empty(&self) -> bool
+        requires { IsRowWidth K }
+        ensures none { result ≡ true → (x : ℕ) → row_has self.now x ≡ false }
+        ensures some { result ≡ false → (x : ℕ) × (row_has self.now x ≡ true) }
+    {
+        let mut all = 0;
+        for i in 0..K {
+            all = all | self.words[i];
+        }
+        all == 0
+    }
+
     /// How many numbers are in the set.
     #[inline]
     pub fn count(&self) -> u32
