@@ -7,3 +7,4 @@ pub mod Finished
 pub mod HandedOn
 pub mod KeptRuns
 mod OverLong
+mod Outside

@@ -63,6 +63,19 @@ fit_now row false unknown beyond now limit total less far is fit on = go (cases_
     go (inr l) = l
     go (inl l) = absurd (clash row unknown beyond less (all row beyond (lt-ltb limit total l) far) (sym is ∙ on))
 
+-- a box that was tested and isn't heavier
+pub not_beyond : (most weight : ℕ) (row heavy : Bool) → heavy ≡ row && ltb most weight → row && not heavy ≡ true
+    → weight ≤ most
+not_beyond most weight row heavy is on = go (cases_lt most weight)
+  where
+    clash : (r h : Bool) → h ≡ r && true → r && not h ≡ true → ⊥
+    clash false h e f = true≢false (sym f)
+    clash true h e f = true≢false (sym f ∙ rw e refl)
+
+    go : (most < weight) ⊎ (weight ≤ most) → weight ≤ most
+    go (inr l) = l
+    go (inl l) = absurd (clash row heavy (rw (← lt-ltb most weight l) is) on)
+
 -- boxes that are known to fit do
 pub known_fit : (limit u v : ℕ) (sides head tail : List ℕ) (rows fits : List (List ℕ)) (other known : List ℕ)
     → AreKeptWeights limit sides head tail rows fits → u < length head → v < length head

@@ -6,6 +6,7 @@ use Rattle.packing_terms.specs.Exclusions.{excludes}
 use Rattle.edge_state.specs.BitRows.{row_has}
 use Rattle.edge_state.specs.Edges.{PlainEdges}
 use Rattle.packing_terms.specs.declared.Direction.TheVariants.{Forwards, Backwards}
+use Rattle.packing_terms.specs.declared.Rel.TheVariants.{Before}
 use Rattle.packing_terms.specs.Runs.{AreRuns, HasNoHeavierRun, Leads}
 use Rattle.orientation_rules.specs.Weights.{IsHeaviest}
 
@@ -75,6 +76,28 @@ pub record AreHeaviestWeights (instance : PlainInstance) (s : PlainEdges) (i : �
   pub tail_count : length k.tail ≡ box_count instance
   pub heads : (v : ℕ) → v < box_count instance → IsHeaviest instance s i Backwards v (slice_index k.head v)
   pub tails : (v : ℕ) → v < box_count instance → IsHeaviest instance s i Forwards v (slice_index k.tail v)
+
+-- each box fits beside each other that it may be before: they are together within the limit
+abbrev pub AllFit : PlainInstance → PlainEdges → ℕ → PlainWeights → Type 0
+AllFit instance s i k = (u v : ℕ) → u < box_count instance → v < box_count instance → (u ≡ v → ⊥)
+    → excludes s.trail i u v Before ≡ false → slice_index k.head u + slice_index k.tail v ≤ k.limit
+
+-- the same but for the first boxes of one row and the second boxes of another
+pub record FitOutside (instance : PlainInstance) (s : PlainEdges) (i : ℕ) (k : PlainWeights) (firsts seconds : List ℕ) :
+    Type 0 where
+  pub firsts_within : (u : ℕ) → row_has firsts u ≡ true → u < box_count instance
+  pub seconds_within : (v : ℕ) → row_has seconds v ≡ true → v < box_count instance
+  pub fit : (u v : ℕ) → u < box_count instance → v < box_count instance → (u ≡ v → ⊥)
+      → row_has firsts u ≡ false → row_has seconds v ≡ false → excludes s.trail i u v Before ≡ false
+      → slice_index k.head u + slice_index k.tail v ≤ k.limit
+
+-- all weights are what they were but those of the chains that end in a box of one row, and of those
+-- that start in a box of another
+pub record HaveRisen (instance : PlainInstance) (old new : PlainWeights) (heads tails : List ℕ) : Type 0 where
+  pub heads_within : (u : ℕ) → row_has heads u ≡ true → u < box_count instance
+  pub tails_within : (u : ℕ) → row_has tails u ≡ true → u < box_count instance
+  pub heads_stay : (u : ℕ) → row_has heads u ≡ false → slice_index new.head u ≡ slice_index old.head u
+  pub tails_stay : (u : ℕ) → row_has tails u ≡ false → slice_index new.tail u ≡ slice_index old.tail u
 
 -- `used` levels are in use, there are `boxes` boxes, and each level has memory for `most` boxes, at least as many
 pub record AreKeptLevels (boxes most used : ℕ) (worked : PlainWeights) (levels : List PlainWeights) : Type 0 where

@@ -168,6 +168,7 @@ fn hand_on_all<const K: usize>(
         → IsHeaviest instance.now state.now dim direction v (slice_index into.new v) }
     ensures stays { (u : ℕ) → row_has result u ≡ false
         → (row_has row.entry u ≡ false) × (slice_index into.new u ≡ slice_index into.old u) }
+    ensures within { (u : ℕ) → row_has result u ≡ true → u < state.now.boxes }
 {
     let mut all = row;
     let mut rest = row;
@@ -225,6 +226,7 @@ pub(crate) fn raise_tails<const K: usize>(
         → IsHeaviest instance.now state.now dim Forwards v (slice_index into.new v) }
     ensures stays { (u : ℕ) → row_has result u ≡ false
         → slice_index into.new u ≡ slice_index into.old u }
+    ensures within { (u : ℕ) → row_has result u ≡ true → u < state.now.boxes }
 {
     let mut rest = ahead;
     let mut risen = BitRow::empty();
@@ -263,6 +265,7 @@ pub(crate) fn raise_heads<const K: usize>(
         → IsHeaviest instance.now state.now dim Backwards v (slice_index into.new v) }
     ensures stays { (u : ℕ) → row_has result u ≡ false
         → slice_index into.new u ≡ slice_index into.old u }
+    ensures within { (u : ℕ) → row_has result u ≡ true → u < state.now.boxes }
 {
     let mut rest = ahead;
     let mut risen = BitRow::empty();

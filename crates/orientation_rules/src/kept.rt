@@ -7,16 +7,24 @@ ghost use Rattle.edge_state.specs.BitRows.{IsRowWidth, row_has, HoldsBoxes};
 ghost use Rattle.packing_terms.specs.declared.Direction.TheVariants.{Forwards, Backwards};
 ghost use Rattle.packing_terms.specs.Runs.{Leads};
 ghost use Rattle.orientation_rules.specs.Weights.{HasOneWayChains, IsHeaviest};
-ghost use Rattle.orientation_rules.specs.CachedChainWeights.{GoesOn, StillHolds, StillHold, AreHeaviestWeights};
+ghost use Rattle.orientation_rules.specs.CachedChainWeights.{GoesOn, StillHolds, StillHold, AreHeaviestWeights, AllFit, HaveRisen};
 
+use crate::fits::{add_member, drop_risen, heavier, unknown_in};
 use crate::incremental::{raise_heads, raise_tails};
-use crate::refills::{clear_rows, drop_members, empty_rows, refill, refill_rows, write_sides};
+use crate::refills::{clear_rows, refill, refill_rows, write_sides};
 use crate::successors::successor_row;
 use box_instances::{Instance, NoMemory};
-use edge_state::{BitRow, EdgeState};
+use edge_state::{BitRow, EdgeState, Mark};
 use packing_terms::Direction;
 use std::alloc::Global;
 use std::marker::Model;
+
+/// The boxes whose weights rose: those of the chains that end in each, and that start there.
+#[derive(Clone, Copy)]
+pub struct Risen<const K: usize> {
+    pub heads: BitRow<K>,
+    pub tails: BitRow<K>,
+}
 
 /// The weights of the heaviest chains in one dimension, kept with the boxes that may follow each
 /// box in a chain, and with the boxes beside which each is known to fit. There is memory for `most`
@@ -30,6 +38,7 @@ pub struct CachedChainWeights<const K: usize> {
     tail: Vec<u64>,
     rows: Vec<BitRow<K>>,
     fits: Vec<BitRow<K>>,
+    end: Mark,
 }
 
 impl<const K: usize> Model for CachedChainWeights<K> {
@@ -52,18 +61,6 @@ impl<const K: usize> Model for CachedChainWeights<K> {
         (vec_capacity k.tail) (vec_capacity k.rows) (vec_capacity k.fits) };
 }
 
-// Whether a row has no member.
-#[inline]
-fn has_none<const K: usize>(row: BitRow<K>) -> bool
-    requires { IsRowWidth K }
-    ensures { result ≡ true → (x : ℕ) → row_has row.entry x ≡ false }
-{
-    match row.first() {
-        Some(_) => false,
-        None => true,
-    }
-}
-
 // The row with one number more, unless another row has no member.
 #[inline]
 fn with_if_any<const K: usize>(row: BitRow<K>, number: u32, other: BitRow<K>) -> BitRow<K>
@@ -74,7 +71,7 @@ fn with_if_any<const K: usize>(row: BitRow<K>, number: u32, other: BitRow<K>) ->
     ensures on { (x : ℕ) → row_has result x ≡ true
         → (row_has row.entry x ≡ true) ⊎ (x ≡ number) }
 {
-    if has_none(other) {
+    if other.is_empty() {
         row
     } else {
         row.with(number)
@@ -103,7 +100,7 @@ fn add_changed<const K: usize>(
         return true;
     }
     *ahead = ahead.with(number);
-    has_none(kept.minus(row))
+    kept.minus(row).is_empty()
 }
 
 // Whether the sides are those of the boxes, and the boxes of each row still follow its box in a
@@ -190,38 +187,6 @@ fn boxes_ahead<const K: usize>(instance: &Instance, state: &EdgeState, dim: u32)
     ahead
 }
 
-// Leaves in each row only boxes that it has and whose tail didn't rise, and none where the head of
-// the row's box rose. All rows lose the same boxes, in a loop without a branch, and few are emptied.
-fn drop_risen<const K: usize>(heads: BitRow<K>, tails: BitRow<K>, fits: &mut [BitRow<K>])
-    requires { IsRowWidth K }
-    ensures count { length fits.new ≡ length fits.old }
-    ensures left { (u x : ℕ) → u < length fits.old → GoesOn fits.new u x
-        → (row_has heads.entry u ≡ false) × (row_has tails.entry x ≡ false)
-        × GoesOn fits.old u x }
-{
-    drop_members(tails, fits);
-    empty_rows(heads, fits);
-}
-
-// The boxes of a row with a weight above `most`.
-#[inline]
-fn heavier<const K: usize>(row: BitRow<K>, weights: &[u64], most: u64) -> BitRow<K>
-    requires width { IsRowWidth K }
-    requires within { (v : ℕ) → row_has row v ≡ true → v < length weights.now }
-    ensures { (v : ℕ) → row_has result v ≡ row_has row.entry v
-        && nat_lt most (slice_index weights.now v) }
-{
-    let mut rest = row;
-    let mut heavy = BitRow::empty();
-    while let Some(v) = rest.first() {
-        rest = rest.without(v);
-        if weights[v as usize] > most {
-            heavy = heavy.with(v);
-        }
-    }
-    heavy
-}
-
 impl<const K: usize> CachedChainWeights<K> {
     /// Room for `boxes` boxes. Nothing is known of any chain.
     pub fn new(alloc: Global, boxes: u32) -> Result<CachedChainWeights<K>, NoMemory>
@@ -251,7 +216,21 @@ impl<const K: usize> CachedChainWeights<K> {
             tail,
             rows,
             fits,
+            end: Mark::first(),
         })
+    }
+
+    /// Notes at which position of a state's list the closing ended that they are of.
+    pub fn end_at(&mut self, end: Mark)
+        ensures { self.new ≡ self.old }
+    {
+        self.end = end;
+    }
+
+    /// Whether they are of a closing that ended after this position. Nothing is claimed of the
+    /// positions: weights that are of another state don't hold, which `holds` tests.
+    pub fn ends_after(&self, mark: Mark) -> bool {
+        mark.is_before(self.end)
     }
 
     /// Makes room for `boxes` boxes, at most as many as there is memory for. Where there was room
@@ -341,21 +320,33 @@ impl<const K: usize> CachedChainWeights<K> {
         self.fits.copy_from_slice(&from.fits);
     }
 
+    /// Whether each box is known to fit beside each other that it may be before.
+    pub fn all_fit(&self, instance: &Instance, state: &EdgeState, dim: u32) -> bool
+        requires words { HoldsBoxes K state.now.boxes }
+        requires boxes { state.now.boxes ≡ box_count instance.now }
+        requires dim { dim < state.now.dims }
+        requires count { length self.now.head ≡ box_count instance.now }
+        ensures { result ≡ true → AllFit instance.now state.now dim self.now }
+    {
+        unknown_in(state, dim, self.fits.as_slice()).is_empty()
+    }
+
     /// Makes them the weights of a state in which they still hold, where only boxes of `ahead` go on
-    /// to more than their rows show. Answers whether a weight rose.
+    /// to more than their rows show. Answers which weights may have risen.
     pub fn raise(
         &mut self,
         instance: &Instance,
         state: &EdgeState,
         dim: u32,
         ahead: BitRow<K>,
-    ) -> bool
+    ) -> Risen<K>
         requires words { HoldsBoxes K state.now.boxes }
         requires ordered_back { HasOneWayChains instance.now state.now dim Backwards }
         requires ordered { HasOneWayChains instance.now state.now dim Forwards }
         requires still { StillHold instance.now state.now dim self.old ahead }
         ensures most { self.new.most ≡ self.old.most }
         ensures weights { AreHeaviestWeights instance.now state.now dim self.new }
+        ensures risen { HaveRisen instance.now self.old self.new result.heads result.tails }
     {
         // For the proof alone: states the limits of the state.
         let _boxes = state.boxes();
@@ -366,7 +357,7 @@ impl<const K: usize> CachedChainWeights<K> {
         let tails = raise_tails(instance, state, dim, ahead, rows, tail);
         set_rows(instance, state, dim, ahead, self.rows.as_mut_slice());
         drop_risen(heads, tails, self.fits.as_mut_slice());
-        !has_none(heads.or(tails))
+        Risen { heads, tails }
     }
 
     /// The boxes of `row` that `u` can't be before: a heaviest chain that ends in `u` and one that
@@ -383,7 +374,7 @@ impl<const K: usize> CachedChainWeights<K> {
     {
         let known = self.fits[u as usize];
         let unknown = row.minus(known);
-        if has_none(unknown) {
+        if unknown.is_empty() {
             return unknown;
         }
         let Some(most) = self.limit.checked_sub(self.head[u as usize]) else {
@@ -392,6 +383,26 @@ impl<const K: usize> CachedChainWeights<K> {
         let over_long = heavier(unknown, self.tail.as_slice(), most);
         let fits = self.fits.as_mut_slice();
         fits[u as usize] = known.or(unknown.minus(over_long));
+        over_long
+    }
+
+    /// The boxes of `row` that can't be before `v`, by the same weights. The other boxes of `row`
+    /// are known to fit beside `v` from then on, until a weight of the pair rises.
+    #[inline]
+    pub fn find_over_long_to(&mut self, v: u32, row: BitRow<K>) -> BitRow<K>
+        requires width { IsRowWidth K }
+        requires v { v < length self.old.head }
+        requires number { v < 64 * K }
+        requires within { (u : ℕ) → row_has row u ≡ true → u < length self.old.head }
+        ensures same { self.new ≡ self.old }
+        ensures over { (u : ℕ) → row_has result u ≡ row_has row.entry u
+            && nat_lt self.old.limit (slice_index self.old.head u + slice_index self.old.tail v) }
+    {
+        let Some(most) = self.limit.checked_sub(self.tail[v as usize]) else {
+            return row;
+        };
+        let over_long = heavier(row, self.head.as_slice(), most);
+        add_member(row.minus(over_long), v, self.fits.as_mut_slice());
         over_long
     }
 }

@@ -1,5 +1,5 @@
 //! Kept weights of one dimension, level by level: those of the nodes above in a search.
-ghost use Rattle.std.specs.Prelude.{◌≡◌, ◌+◌, ◌<◌, ◌≤◌, ◌&&◌, ℕ, nat_lt, true, false, length, slice_index, IfOk};
+ghost use Rattle.std.specs.Prelude.{◌≡◌, ◌+◌, ◌<◌, ◌≤◌, ◌*◌, ◌&&◌, ℕ, nat_lt, true, false, length, slice_index, IfOk, IfSome};
 ghost use Rattle.packing_terms.specs.Packing.{dims, box_count, container_side};
 ghost use Rattle.packing_terms.specs.Exclusions.{excludes, IsSurelyBefore};
 ghost use Rattle.edge_state.specs.BitRows.{IsRowWidth, row_has, HoldsBoxes};
@@ -7,11 +7,11 @@ ghost use Rattle.packing_terms.specs.declared.Direction.TheVariants.{Forwards, B
 ghost use Rattle.packing_terms.specs.Places.{HasNoEmptyMask};
 ghost use Rattle.packing_terms.specs.Runs.{IsTransitive, AreHeaviestHeads, AreHeaviestTails};
 ghost use Rattle.orientation_rules.specs.Weights.{HasOneWayChains};
-ghost use Rattle.orientation_rules.specs.CachedChainWeights.{AreHeaviestWeights};
+ghost use Rattle.orientation_rules.specs.CachedChainWeights.{AreHeaviestWeights, FitOutside, StillHold};
 
-use crate::kept::CachedChainWeights;
+use crate::kept::{CachedChainWeights, Risen};
 use box_instances::{Instance, NoMemory};
-use edge_state::{BitRow, EdgeState};
+use edge_state::{BitRow, EdgeState, Mark};
 use std::alloc::Global;
 use std::marker::Model;
 
@@ -40,6 +40,18 @@ impl<const K: usize> Model for ChainWeightCache<K> {
     ghost view = { λ k. record { boxes = k.boxes; most = k.most; weights = k.work } };
 
     ghost invariant = { λ k. AreKeptLevels k.boxes k.most k.used k.work k.levels.items };
+}
+
+// All boxes as boxes whose heads may have risen: CHAIN is then looked at in all rows.
+fn every_box<const K: usize>(all: BitRow<K>) -> Risen<K>
+    requires { IsRowWidth K }
+    ensures heads { result.heads ≡ all.entry }
+    ensures tails { (x : ℕ) → row_has result.tails x ≡ false }
+{
+    Risen {
+        heads: all,
+        tails: BitRow::empty(),
+    }
 }
 
 impl<const K: usize> ChainWeightCache<K> {
@@ -80,85 +92,177 @@ impl<const K: usize> ChainWeightCache<K> {
         self.work.set_boxes(boxes);
     }
 
-    /// Begins another closing, whose weights are made from those that are kept.
-    pub fn begin(&mut self)
+    /// Begins a closing of a state that was closed at this position of its list. Its weights are
+    /// made from those that are kept. Those of a closing that ended at a later position were of
+    /// another branch of the search, so they are given up.
+    pub fn begin(&mut self, closed: Mark)
         ensures { self.new ≡ self.old }
     {
         self.fresh = false;
         self.rose = false;
+        while self.used > 0 {
+            if !self.levels[self.used - 1].ends_after(closed) {
+                return;
+            }
+            self.used -= 1;
+        }
+    }
+
+    // Raises the weights that were made last, which still hold.
+    fn raise(
+        &mut self,
+        instance: &Instance,
+        state: &EdgeState,
+        dim: u32,
+        all: BitRow<K>,
+        ahead: BitRow<K>,
+    ) -> Risen<K>
+        requires words { HoldsBoxes K state.now.boxes }
+        requires ordered_back { HasOneWayChains instance.now state.now dim Backwards }
+        requires ordered { HasOneWayChains instance.now state.now dim Forwards }
+        requires all { (x : ℕ) → row_has all x ≡ nat_lt x (box_count instance.now) }
+        requires still { StillHold instance.now state.now dim self.old.weights ahead }
+        ensures boxes { self.new.boxes ≡ self.old.boxes }
+        ensures most { self.new.most ≡ self.old.most }
+        ensures weights { AreHeaviestWeights instance.now state.now dim self.new.weights }
+        ensures fit { FitOutside instance.now state.now dim self.new.weights result.heads
+            result.tails }
+    {
+        // For the proof alone: states the limits of the state.
+        let _boxes = state.boxes();
+        let known = self.work.all_fit(instance, state, dim);
+        let risen = self.work.raise(instance, state, dim, ahead);
+        self.rose = self.rose | !risen.heads.or(risen.tails).is_empty();
+        if known {
+            return risen;
+        }
+        every_box(all)
     }
 
     // Makes the weights of a state from those that were made last, if they serve.
-    fn renew_last(&mut self, instance: &Instance, state: &EdgeState, dim: u32) -> bool
+    fn renew_last(
+        &mut self,
+        instance: &Instance,
+        state: &EdgeState,
+        dim: u32,
+        all: BitRow<K>,
+    ) -> Option<Risen<K>>
         requires words { HoldsBoxes K state.now.boxes }
         requires room { self.old.boxes ≡ box_count instance.now }
         requires ordered_back { HasOneWayChains instance.now state.now dim Backwards }
         requires ordered { HasOneWayChains instance.now state.now dim Forwards }
+        requires all { (x : ℕ) → row_has all x ≡ nat_lt x (box_count instance.now) }
         ensures boxes { self.new.boxes ≡ self.old.boxes }
         ensures most { self.new.most ≡ self.old.most }
-        ensures renewed { result ≡ true
-            → AreHeaviestWeights instance.now state.now dim self.new.weights }
+        ensures renewed { IfSome result (λ risen.
+            AreHeaviestWeights instance.now state.now dim self.new.weights
+            × FitOutside instance.now state.now dim self.new.weights risen.heads risen.tails) }
     {
         let mut ahead = BitRow::empty();
         if !self.work.holds(instance, state, dim, &mut ahead) {
-            return false;
+            return None;
         }
-        let rose = self.work.raise(instance, state, dim, ahead);
-        self.rose = self.rose | rose;
-        true
+        Some(self.raise(instance, state, dim, all, ahead))
     }
 
-    // Makes the weights of a state from those of the newest level that serves. Those above it are
-    // given up.
-    fn renew_newest(&mut self, instance: &Instance, state: &EdgeState, dim: u32) -> bool
+    // Makes the weights those of the newest level that serves. Those above it are given up. Answers a
+    // row with all boxes that go on to more than their rows show.
+    fn restore_newest(
+        &mut self,
+        instance: &Instance,
+        state: &EdgeState,
+        dim: u32,
+    ) -> Option<BitRow<K>>
         requires words { HoldsBoxes K state.now.boxes }
         requires room { self.old.boxes ≡ box_count instance.now }
-        requires ordered_back { HasOneWayChains instance.now state.now dim Backwards }
         requires ordered { HasOneWayChains instance.now state.now dim Forwards }
         ensures boxes { self.new.boxes ≡ self.old.boxes }
         ensures most { self.new.most ≡ self.old.most }
-        ensures renewed { result ≡ true
-            → AreHeaviestWeights instance.now state.now dim self.new.weights }
+        ensures holds { IfSome result (λ ahead.
+            StillHold instance.now state.now dim self.new.weights ahead) }
     {
         while self.used > 0 {
             let level = &self.levels[self.used - 1];
             let mut ahead = BitRow::empty();
             if level.holds(instance, state, dim, &mut ahead) {
                 self.work.copy_from(level);
-                self.rose = self.work.raise(instance, state, dim, ahead);
-                return true;
+                return Some(ahead);
             }
             self.used -= 1;
         }
-        false
+        None
     }
 
-    // The same, or from nothing. Within a closing those that were made last serve.
-    fn weigh(&mut self, instance: &Instance, state: &EdgeState, dim: u32)
+    // Makes the weights of a state from those of the newest level that serves.
+    fn renew_newest(
+        &mut self,
+        instance: &Instance,
+        state: &EdgeState,
+        dim: u32,
+        all: BitRow<K>,
+    ) -> Option<Risen<K>>
         requires words { HoldsBoxes K state.now.boxes }
         requires room { self.old.boxes ≡ box_count instance.now }
         requires ordered_back { HasOneWayChains instance.now state.now dim Backwards }
         requires ordered { HasOneWayChains instance.now state.now dim Forwards }
+        requires all { (x : ℕ) → row_has all x ≡ nat_lt x (box_count instance.now) }
+        ensures boxes { self.new.boxes ≡ self.old.boxes }
+        ensures most { self.new.most ≡ self.old.most }
+        ensures renewed { IfSome result (λ risen.
+            AreHeaviestWeights instance.now state.now dim self.new.weights
+            × FitOutside instance.now state.now dim self.new.weights risen.heads risen.tails) }
+    {
+        let ahead = self.restore_newest(instance, state, dim)?;
+        self.rose = false;
+        Some(self.raise(instance, state, dim, all, ahead))
+    }
+
+    // The same, or from nothing. Within a closing those that were made last serve.
+    fn weigh(
+        &mut self,
+        instance: &Instance,
+        state: &EdgeState,
+        dim: u32,
+        all: BitRow<K>,
+    ) -> Risen<K>
+        requires words { HoldsBoxes K state.now.boxes }
+        requires room { self.old.boxes ≡ box_count instance.now }
+        requires ordered_back { HasOneWayChains instance.now state.now dim Backwards }
+        requires ordered { HasOneWayChains instance.now state.now dim Forwards }
+        requires all { (x : ℕ) → row_has all x ≡ nat_lt x (box_count instance.now) }
         ensures boxes { self.new.boxes ≡ self.old.boxes }
         ensures most { self.new.most ≡ self.old.most }
         ensures weights { AreHeaviestWeights instance.now state.now dim self.new.weights }
+        ensures fit { FitOutside instance.now state.now dim self.new.weights result.heads
+            result.tails }
     {
         if self.fresh {
-            if self.renew_last(instance, state, dim) {
-                return;
+            if let Some(risen) = self.renew_last(instance, state, dim, all) {
+                return risen;
             }
         }
-        if self.renew_newest(instance, state, dim) {
-            return;
+        if let Some(risen) = self.renew_newest(instance, state, dim, all) {
+            return risen;
         }
         self.work.weigh(instance, state, dim);
         self.rose = true;
+        every_box(all)
     }
 
     /// Makes the weights of the heaviest chains of a state, from those that were kept where these
     /// serve. No mask is empty, and surely before is transitive in this dimension, as COMPOSE makes
-    /// it.
-    pub fn update_from_cache(&mut self, instance: &Instance, state: &EdgeState, dim: u32)
+    /// it. `all` has all boxes.
+    ///
+    /// Answers where CHAIN may exclude something: in the rows of the boxes whose heads are
+    /// answered, and in the columns of those whose tails are. Each two other boxes of which one may
+    /// be before the other are known to fit.
+    pub fn update_from_cache(
+        &mut self,
+        instance: &Instance,
+        state: &EdgeState,
+        dim: u32,
+        all: BitRow<K>,
+    ) -> Risen<K>
         requires words { HoldsBoxes K state.now.boxes }
         requires room { self.old.boxes ≡ box_count instance.now }
         requires dims { state.now.dims ≡ dims instance.now }
@@ -167,6 +271,7 @@ impl<const K: usize> ChainWeightCache<K> {
         requires full { HasNoEmptyMask instance.now (excludes state.now.trail) }
         requires transitive { IsTransitive (box_count instance.now) (IsSurelyBefore
             (excludes state.now.trail) dim) }
+        requires all { (x : ℕ) → row_has all x ≡ nat_lt x (box_count instance.now) }
         ensures boxes { self.new.boxes ≡ self.old.boxes }
         ensures most { self.new.most ≡ self.old.most }
         ensures limit { self.new.weights.limit ≡ container_side instance.now dim }
@@ -176,11 +281,14 @@ impl<const K: usize> ChainWeightCache<K> {
             (excludes state.now.trail) dim self.new.weights.head }
         ensures tails { AreHeaviestTails instance.now
             (excludes state.now.trail) dim self.new.weights.tail }
+        ensures fit { FitOutside instance.now state.now dim self.new.weights result.heads
+            result.tails }
     {
         // For the proof alone: states the limits of the state.
         let _boxes = state.boxes();
-        self.weigh(instance, state, dim);
+        let risen = self.weigh(instance, state, dim, all);
         self.fresh = true;
+        risen
     }
 
     // Evicts every other level, the older of each two, so that there is room on top. So levels that
@@ -211,8 +319,9 @@ impl<const K: usize> ChainWeightCache<K> {
         self.used = at + 1;
     }
 
-    /// Ends a closing, and keeps its weights on top if one rose in it.
-    pub fn finish(&mut self)
+    /// Ends a closing at this position of the state's list, and keeps its weights on top if one rose
+    /// in it.
+    pub fn finish(&mut self, end: Mark)
         requires { IsRowWidth K }
         ensures boxes { self.new.boxes ≡ self.old.boxes }
         ensures most { self.new.most ≡ self.old.most }
@@ -223,6 +332,7 @@ impl<const K: usize> ChainWeightCache<K> {
         if self.used >= self.levels.len() {
             self.evict_every_other();
         }
+        self.work.end_at(end);
         self.push();
         self.fresh = false;
     }
@@ -240,5 +350,20 @@ impl<const K: usize> ChainWeightCache<K> {
             + slice_index self.old.weights.tail v) }
     {
         self.work.find_over_long(u, row)
+    }
+
+    /// The boxes of `row` that can't be before `v`, by the same weights.
+    #[inline]
+    pub fn find_over_long_to(&mut self, v: u32, row: BitRow<K>) -> BitRow<K>
+        requires width { IsRowWidth K }
+        requires v { v < self.old.boxes }
+        requires number { v < 64 * K }
+        requires within { (u : ℕ) → row_has row u ≡ true → u < self.old.boxes }
+        ensures same { self.new ≡ self.old }
+        ensures over { (u : ℕ) → row_has result u ≡ row_has row.entry u
+            && nat_lt self.old.weights.limit (slice_index self.old.weights.head u
+            + slice_index self.old.weights.tail v) }
+    {
+        self.work.find_over_long_to(v, row)
     }
 }

@@ -81,9 +81,9 @@ pub(crate) fn drop_members<const K: usize>(dropped: BitRow<K>, rows: &mut [BitRo
     ensures left { (u x : ℕ) → u < length rows.old → GoesOn rows.new u x
         → (row_has dropped.entry x ≡ false) × GoesOn rows.old u x }
 {
-    let Some(_) = dropped.first() else {
+    if dropped.is_empty() {
         return;
-    };
+    }
     for at in 0..rows.len() {
         rows[at] = rows[at].minus(dropped);
     }

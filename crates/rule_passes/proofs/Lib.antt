@@ -5,4 +5,6 @@ mod Quiet
 mod RowRules
 mod RowStates
 pub mod Levels
+mod Members
 mod ChainRows
+mod ChainPasses

@@ -19,22 +19,22 @@ use edge_state::{BitRow, EdgeState, Mark};
 use orientation_rules::ChainWeightCache;
 
 // Begins a closing in each dimension.
-fn begin_each<const K: usize>(kept: &mut [ChainWeightCache<K>])
+fn begin_each<const K: usize>(kept: &mut [ChainWeightCache<K>], closed: Mark)
     ensures { kept.new ≡ kept.old }
 {
     for dim in 0..kept.len() {
-        kept[dim].begin();
+        kept[dim].begin(closed);
     }
 }
 
 // Ends a closing in each dimension, and keeps the weights that it came to.
-fn finish_each<const K: usize>(kept: &mut [ChainWeightCache<K>])
+fn finish_each<const K: usize>(kept: &mut [ChainWeightCache<K>], end: Mark)
     requires { IsRowWidth K }
     ensures kept { (d n : ℕ) → AreKept d n kept.old → AreKept d n kept.new }
     ensures made { (d most : ℕ) → AreMade d most kept.old → AreMade d most kept.new }
 {
     for dim in 0..kept.len() {
-        kept[dim].finish();
+        kept[dim].finish(end);
     }
 }
 
@@ -68,7 +68,7 @@ pub(crate) fn run_to_fixpoint<const K: usize>(
         (IsStable instance.now (excludes state.new.trail)
         × HasNoEmptyMask instance.now (excludes state.new.trail)) }
 {
-    begin_each(kept);
+    begin_each(kept, closed);
     guess.begin(closed);
     let Some(first) = drain_worklist(instance, state, all, closed, BitRow::empty(), guess) else {
         return true;
@@ -77,7 +77,7 @@ pub(crate) fn run_to_fixpoint<const K: usize>(
     while let Some(dim) = dirty.first() {
         let next = state.mark();
         let levels = &mut kept[dim as usize];
-        if propagate_chains::<K>(instance, state, dim, levels) {
+        if propagate_chains(instance, state, dim, all, levels) {
             return true;
         }
         let rest = dirty.without(dim);
@@ -88,6 +88,6 @@ pub(crate) fn run_to_fixpoint<const K: usize>(
         let _sizes = state.dims();
         dirty = more;
     }
-    finish_each(kept);
+    finish_each(kept, state.mark());
     false
 }

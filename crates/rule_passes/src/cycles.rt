@@ -12,7 +12,7 @@ ghost use Rattle.edge_state.specs.Work.{HasApplied};
 
 use crate::candidates::{cycle_fourths, cycle_seconds, cycle_thirds};
 use crate::excluding::{exclude_between, exclude_both};
-use crate::rows::{either, gone_of_any, is_empty};
+use crate::rows::{either, gone_of_any};
 use box_instances::Instance;
 use edge_state::{BitRow, EdgeState, Rel};
 
@@ -36,12 +36,12 @@ pub(crate) fn may_cycle<const K: usize>(
         (Cycles instance.now dim a b) }
 {
     let fourths = cycle_fourths::<K>(instance, state, dim, a, b);
-    if is_empty(fourths) {
+    if fourths.is_empty() {
         return false;
     }
     let thirds = cycle_thirds(instance, state, all, dim, a, b);
     let closing = gone_of_any(instance, state, all, dim, thirds, Rel::Before, Rel::After);
-    !is_empty(fourths.and(closing))
+    !fourths.and(closing).is_empty()
 }
 
 /// CYCLE with the first two boxes given, for all third boxes at once: it excludes at the second
@@ -96,7 +96,7 @@ fn has_open_pair<const K: usize>(
     while let Some(b) = rest.first() {
         rest = rest.without(b);
         let open = either::<K>(instance, state, dim, b, Rel::Before, Rel::After);
-        if !is_empty(open.and(row)) {
+        if !open.and(row).is_empty() {
             return true;
         }
     }

@@ -12,7 +12,7 @@ ghost use Rattle.edge_state.specs.States.{IsSized};
 ghost use Rattle.edge_state.specs.Work.{HasApplied};
 ghost use Rattle.rule_passes.specs.Reached.{NoRule};
 
-use crate::rows::{either, is_empty};
+use crate::rows::either;
 use box_instances::Instance;
 use edge_state::{BitRow, EdgeState, Rel};
 
@@ -40,7 +40,7 @@ pub(crate) fn exclude_each<const K: usize>(
 {
     let open = state.row_in::<K>(dim, u, rel);
     let left = row.and(open);
-    if is_empty(left) {
+    if left.is_empty() {
         return false;
     }
     state.exclude_row::<K>(dim, u, rel, left)

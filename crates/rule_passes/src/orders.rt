@@ -12,7 +12,7 @@ ghost use Rattle.edge_state.specs.Work.{IsCovered, HasApplied};
 
 use crate::candidates::{beyond_orders_from, beyond_orders_to};
 use crate::excluding::{exclude_each, exclude_overlaps};
-use crate::rows::{either, gone, gone_of_any, is_empty, near_both, near_both_without};
+use crate::rows::{either, gone, gone_of_any, near_both, near_both_without};
 use box_instances::Instance;
 use edge_state::{BitRow, EdgeState, Rel};
 
@@ -40,7 +40,7 @@ fn may_order_lasts<const K: usize>(
     while let Some(d) = rest.first() {
         rest = rest.without(d);
         let last = either::<K>(instance, state, dim, d, Rel::Overlap, Rel::Before);
-        if !is_empty(beyond_orders_from(instance, state, dim, a, b, d, free, last)) {
+        if !beyond_orders_from(instance, state, dim, a, b, d, free, last).is_empty() {
             return true;
         }
     }
@@ -71,7 +71,7 @@ fn may_order_firsts<const K: usize>(
     while let Some(a) = rest.first() {
         rest = rest.without(a);
         let first = either::<K>(instance, state, dim, a, Rel::Overlap, Rel::After);
-        if !is_empty(beyond_orders_to(instance, state, dim, a, c, d, free, first)) {
+        if !beyond_orders_to(instance, state, dim, a, c, d, free, first).is_empty() {
             return true;
         }
     }
@@ -161,14 +161,14 @@ fn may_order_seconds<const K: usize>(
         → IsCovered instance.now (excludes state.now.trail) state.now.trail (Order dim a b c d) }
 {
     let thirds = thirds_before(instance, state, all, dim, a, d);
-    if is_empty(thirds) {
+    if thirds.is_empty() {
         return false;
     }
     let mut rest = seconds;
     while let Some(b) = rest.first() {
         rest = rest.without(b);
         let near = state.row_in::<K>(dim, b, Rel::Overlap);
-        if !is_empty(near.and(thirds)) {
+        if !near.and(thirds).is_empty() {
             return true;
         }
     }

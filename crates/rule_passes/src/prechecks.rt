@@ -20,7 +20,6 @@ ghost use Rattle.rule_passes.specs.Reached.{BoundsSides, IsReachedOrdered, IsRea
 use crate::candidates::beyond_compositions;
 use crate::cycles::{may_chord, may_cycle};
 use crate::orders::{may_order_crossed, may_order_first, may_order_second};
-use crate::rows::is_empty;
 use crate::triples::may_triple;
 use box_instances::Instance;
 use edge_state::{BitRow, EdgeState, Mask, Rel};
@@ -48,7 +47,7 @@ pub(crate) fn may_compose<const K: usize>(
 {
     let there: BitRow<K> = beyond_compositions(instance, state, dim, u, v, left);
     let back = beyond_compositions(instance, state, dim, v, u, flip(left));
-    if is_empty(there.or(back)) {
+    if there.or(back).is_empty() {
         return false;
     }
     true

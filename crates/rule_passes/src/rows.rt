@@ -21,18 +21,6 @@ pub(crate) fn pick<const K: usize>(row: BitRow<K>, wanted: bool) -> BitRow<K>
     if wanted { row } else { BitRow::empty() }
 }
 
-/// Whether a row has no member.
-#[inline(always)]
-pub(crate) fn is_empty<const K: usize>(row: BitRow<K>) -> bool
-    requires { IsRowWidth K }
-    ensures { result ≡ true → (x : ℕ) → row_has row.entry x ≡ false }
-{
-    match row.first() {
-        Some(_) => false,
-        None => true,
-    }
-}
-
 /// What is in one of three rows.
 #[inline(always)]
 pub(crate) fn one_of<const K: usize>(

@@ -14,7 +14,6 @@ ghost use Rattle.rule_passes.specs.Reached.{BoundsSides};
 
 use crate::candidates::beyond_triples;
 use crate::excluding::exclude_both;
-use crate::rows::is_empty;
 use box_instances::Instance;
 use edge_state::{BitRow, EdgeState, Rel};
 
@@ -140,7 +139,7 @@ pub(crate) fn may_triple<const K: usize>(
 {
     let there = beyond_triples::<K>(instance, state, dim, u, x);
     let back = beyond_triples::<K>(instance, state, dim, x, u);
-    if is_empty(there.or(back)) {
+    if there.or(back).is_empty() {
         return false;
     }
     let least = least_third(instance, dim, u, x);

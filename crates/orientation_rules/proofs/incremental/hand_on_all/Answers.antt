@@ -1,5 +1,5 @@
-use Rattle.std.proofs.Common.{◌*◌, ◌∙◌, ◌<◌, ◌≤◌, sym, arith}
-use Rattle.std.proofs.lemmas.Bool.{or_parts}
+use Rattle.std.proofs.Common.{◌≡◌, ◌*◌, ◌∙◌, ◌<◌, ◌≤◌, ◌⊎◌, ℕ, inl, inr, true, sym, arith}
+use Rattle.std.proofs.lemmas.Bool.{or_parts, or_cases}
 use Rattle.packing_terms.specs.Packing.{box_count, side}
 use Rattle.packing_terms.specs.Exclusions.{excludes}
 use Rattle.edge_state.specs.BitRows.{row_has}
@@ -32,7 +32,13 @@ loop-first-preserved g c = record {
   stays = λ x off. (let p = or_parts _ _ (sym (c.or-all.ensures x) ∙ off) in
       let s = c.loop-first.invariant.stays x p.0 in
       (p.1, s.1, (c.raise_predecessors.ensures.stays x p.1).1 ∙ s.2));
+  all_within = λ x on. in_one x (or_cases _ _ (sym (c.or-all.ensures x) ∙ on));
 }
+  where
+    in_one : (x : ℕ) → (row_has c.loop-first.all x ≡ true) ⊎ (row_has c.raise_predecessors.new.risen x ≡ true)
+        → x < c.args.state.now.boxes
+    in_one x (inl on) = c.loop-first.invariant.all_within x on
+    in_one x (inr on) = c.raise_predecessors.ensures.within x on
 
 pub returns-clause-heaviest : goal.returns-clause-heaviest
 returns-clause-heaviest g c = heaviest _ _ _ _ c.loop-first.invariant.weights

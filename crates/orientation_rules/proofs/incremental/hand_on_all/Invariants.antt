@@ -13,6 +13,7 @@ invariant-loop-first g l = record {
       → IsWeighedAt l.instance l.state l.dim l.direction l.into u x;
   stays : (x : ℕ) → row_has l.all x ≡ false → (row_has l.rest x ≡ false) × (row_has l.fn.row x ≡ false)
       × (slice_index l.into x ≡ slice_index l.fn.into x);
+  all_within : (x : ℕ) → row_has l.all x ≡ true → x < l.state.boxes;
 }
 
 abbrev pub decreases-loop-first : goal.decreases-loop-first

@@ -16,16 +16,22 @@ propagate_chains-requires g c =
     let there = looked.within _ c.in-Some-first.ensures.least.there in (
       search rules,
       (
-        c.requires.words,
+        search rules,
         (
-          record {
-            same_dims = c.loop-dim.invariant.same_dims ∙ c.requires.dims;
-            same_boxes = c.loop-dim.invariant.same_boxes ∙ c.requires.boxes;
-            there = there;
-          },
+          c.requires.words,
           (
-            c.loop-dim.invariant.kept.each c.in-Some-first.dim _ there,
-            (looked.settled.full, settled_transitive _ _ _ there (up_to_date _ _ looked.settled)),
+            record {
+              same_dims = c.loop-dim.invariant.same_dims ∙ c.requires.dims;
+              same_boxes = c.loop-dim.invariant.same_boxes ∙ c.requires.boxes;
+              there = there;
+            },
+            (
+              c.loop-dim.invariant.kept.each c.in-Some-first.dim _ there,
+              (
+                looked.settled.full,
+                (settled_transitive _ _ _ there (up_to_date _ _ looked.settled), c.requires.all),
+              ),
+            ),
           ),
         ),
       ),

@@ -24,7 +24,7 @@ loop-b-preserved g c = record {
 }
   where
     closed : (y : ℕ) → row_has c.args.row y ≡ true → row_has c.either-open.result y ≡ false
-    closed y there = off_first _ _ (sym (c.and.ensures y) ∙ c.is_empty.ensures c.if-not-is_empty.false y) there
+    closed y there = off_first _ _ (sym (c.and.ensures y) ∙ c.is_empty.ensures.none c.if-not-is_empty.false y) there
 
     go : (x y : ℕ) → row_has c.args.row x ≡ true → (row_has c.loop-b.rest x ≡ false) ⊎ (x ≡ c.in-Some.b)
         → row_has c.args.row y ≡ true → (x ≡ y → ⊥) → IsJoined (excludes c.args.state.now.trail) c.args.dim x y

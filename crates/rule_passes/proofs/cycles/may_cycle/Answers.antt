@@ -16,7 +16,7 @@ pub returns-then-is_empty : goal.returns-then-is_empty
 returns-then-is_empty g c h =
     worked_none c.args.instance.now _ _
     (λ rule e. covered_named c.args.instance.now _ rule (Cycle c.args.dim c.args.a c.args.b e.0 e.2.0) e.2.2
-    (c.cycle_fourths-fourths.ensures.others e.2.0 e.2.1 (c.is_empty.ensures c.if-is_empty.true e.2.0) e.0))
+    (c.cycle_fourths-fourths.ensures.others e.2.0 e.2.1 (c.is_empty.ensures.none c.if-is_empty.true e.2.0) e.0))
 
 -- what isn't so is so, where that is so
 turned : (b : Bool) → not b ≡ false → b ≡ true
@@ -45,7 +45,7 @@ returns g c h =
         → (row_has c.gone_of_any-closing.result d ≡ true) ⊎ (row_has c.gone_of_any-closing.result d ≡ false)
         → IsCovered c.args.instance.now X c.args.state.now.trail (Cycle c.args.dim c.args.a c.args.b x d)
     go x d small (inl on) (inl k) =
-        absurd (true≢false (sym (c.and.ensures d ∙ (rw (on, k) refl)) ∙ c.is_empty-2.ensures (turned _ h) d))
+        absurd (true≢false (sym (c.and.ensures d ∙ (rw (on, k) refl)) ∙ c.is_empty-2.ensures.none (turned _ h) d))
     go x d small (inl on) (inr k) = covered_never c.args.instance.now _ (Cycle c.args.dim c.args.a c.args.b x d)
         (λ is p. c.gone_of_any-closing.ensures.others x d (third_in x d is p) is.1.2.2.2.0 is.1.2.2.1.0 k p.2.0 p.2.1)
     go x d small (inr off) k = c.cycle_fourths-fourths.ensures.others d small off x

@@ -14,7 +14,7 @@ returns-then-is_empty-clause-excluded g c =
     row_none_left (box_count c.args.instance.now) c.args.dim c.args.u c.args.rel c.args.state.now.trail
     (row_has c.args.row) (row_has c.row_in-open.result) (row_has c.and-left.result) c.requires.other
     (rw c.requires.sizes.same_boxes at c.row_in-open.ensures) c.and-left.ensures
-    (c.is_empty.ensures c.if-is_empty.true)
+    (c.is_empty.ensures.none c.if-is_empty.true)
 
 pub returns-clause-worked : goal.returns-clause-worked
 returns-clause-worked g c =

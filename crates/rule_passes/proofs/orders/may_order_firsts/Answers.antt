@@ -24,7 +24,7 @@ loop-a-preserved g c = record {
       → IsCovered c.args.instance.now (excludes c.args.state.now.trail) c.args.state.now.trail
       (Order c.args.dim x y c.args.c c.args.d))
       c.without-rest.ensures c.loop-a.invariant.covered
-      (λ y small. c.beyond_orders_to.ensures.others y small (c.is_empty.ensures c.if-not-is_empty.false y));
+      (λ y small. c.beyond_orders_to.ensures.others y small (c.is_empty.ensures.none c.if-not-is_empty.false y));
   within = λ x h. c.loop-a.invariant.within x (and_parts _ _ (sym (c.without-rest.ensures x) ∙ h)).0;
 }
 

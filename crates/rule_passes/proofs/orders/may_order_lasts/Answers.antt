@@ -24,7 +24,7 @@ loop-d-preserved g c = record {
       → IsCovered c.args.instance.now (excludes c.args.state.now.trail) c.args.state.now.trail
       (Order c.args.dim c.args.a c.args.b y x))
       c.without-rest.ensures c.loop-d.invariant.covered
-      (λ y small. c.beyond_orders_from.ensures.others y small (c.is_empty.ensures c.if-not-is_empty.false y));
+      (λ y small. c.beyond_orders_from.ensures.others y small (c.is_empty.ensures.none c.if-not-is_empty.false y));
   within = λ x h. c.loop-d.invariant.within x (and_parts _ _ (sym (c.without-rest.ensures x) ∙ h)).0;
 }
 

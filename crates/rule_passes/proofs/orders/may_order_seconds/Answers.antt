@@ -18,7 +18,7 @@ returns-then-is_empty g c off x on y small =
     order_shut c.args.instance.now _ _ c.args.dim c.args.a x y c.args.d
     (λ is p ad bd ac. absurd (true≢false (sym
     (c.thirds_before-thirds.ensures.others y small is.1.1.1.0 (λ e. is.1.2.2.1.0 (sym e))
-    (c.is_empty.ensures c.if-is_empty.true y) p.1) ∙ ac)))
+    (c.is_empty.ensures.none c.if-is_empty.true y) p.1) ∙ ac)))
 
 pub loop-b-init : goal.loop-b-init
 loop-b-init g c = record { covered = λ x on off. absurd (true≢false (sym on ∙ off)); within = c.requires.within }
@@ -50,7 +50,7 @@ loop-b-preserved g c = record {
         excludes_symmetric c.args.state.now.trail c.args.dim c.in-Some.b y Overlap
         (row_shut (box_count c.args.instance.now) c.args.dim c.in-Some.b y (excludes c.args.state.now.trail) Overlap
         _ small is.1.2.1.0 ((rw c.requires.sizes.same_boxes at c.row_in-near.ensures) y)
-        (both_on _ _ on (sym (c.and.ensures y) ∙ c.is_empty-in-Some.ensures c.if-not-is_empty.false y)))
+        (both_on _ _ on (sym (c.and.ensures y) ∙ c.is_empty-in-Some.ensures.none c.if-not-is_empty.false y)))
     shut y small is p ac (inr off) = absurd (true≢false (sym
         (c.thirds_before-thirds.ensures.others y small is.1.1.1.0 (λ e. is.1.2.2.1.0 (sym e)) off p.1) ∙ ac))
 

@@ -47,7 +47,7 @@ returns-then-is_empty g c e =
     (λ is. let q = full c.args.dim c.args.v c.args.u back in
     c.beyond_compositions-back.ensures.others x small off (q.0, turned_is q.0 ∙ ap not q.1)
     (full c.args.dim c.args.u x (beside c.args.u x c.requires.u small is.1.2.1.0))))
-    (λ x. or_parts _ _ (sym (c.or.ensures x) ∙ c.is_empty.ensures c.if-is_empty.true x))
+    (λ x. or_parts _ _ (sym (c.or.ensures x) ∙ c.is_empty.ensures.none c.if-is_empty.true x))
   where
     X : ℕ → ℕ → ℕ → Rel → Bool
     X = excludes c.args.state.now.trail

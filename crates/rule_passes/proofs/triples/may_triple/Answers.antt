@@ -18,7 +18,7 @@ returns-then-is_empty g c e =
     (row_has c.beyond_triples-back.result)
     (λ v. Triple c.args.dim c.args.u v c.args.x) (λ v. Triple c.args.dim c.args.x v c.args.u)
     c.beyond_triples-there.ensures.others c.beyond_triples-back.ensures.others
-    (λ v. or_parts _ _ (sym (c.or.ensures v) ∙ c.is_empty.ensures c.if-is_empty.true v))
+    (λ v. or_parts _ _ (sym (c.or.ensures v) ∙ c.is_empty.ensures.none c.if-is_empty.true v))
 
 pub returns-then-from-least : goal.returns-then-from-least
 returns-then-from-least g c h = worked_none c.args.instance.now _ _ (λ rule r. go rule r)

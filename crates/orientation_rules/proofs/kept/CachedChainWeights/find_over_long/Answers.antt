@@ -8,11 +8,11 @@ use Rattle.orientation_rules.proofs.OverLong.{over_is, fit_now, known_fit, left_
 use Rattle.orientation_rules.proofs.KeptRuns.{get_any, kept_same, row_set}
 use Rattle.orientation_rules.proofs.kept.CachedChainWeights.find_over_long.Goals as goal
 
-pub returns-then-has_none-clause-over : goal.returns-then-has_none-clause-over
-returns-then-has_none-clause-over g c v =
+pub returns-then-is_empty-clause-over : goal.returns-then-is_empty-clause-over
+returns-then-is_empty-clause-over g c v =
     let k = c.self.inside in
     let far = nat_lt k.limit (slice_index k.head.items c.args.u + slice_index k.tail.items v) in
-    let none = c.has_none.ensures c.if-has_none.true v in
+    let none = c.is_empty.ensures.none c.if-is_empty.true v in
     let hu : c.args.u < length k.head.items = rw (← c.self.view_is) at c.requires.u in
     rw (← c.self.view_is) (over_is (row_has c.args.row v) (row_has c.index-known.result.now v)
     (row_has c.minus-unknown.result v) (row_has c.minus-unknown.result v) far far

@@ -174,3 +174,20 @@ returns-clause-weights g c =
       heads = rw heads c.raise_heads-heads.ensures.heaviest;
       tails = rw tails c.raise_tails-tails.ensures.heaviest;
     }
+
+pub returns-clause-risen : goal.returns-clause-risen
+returns-clause-risen g c =
+    let head_is : c.as_mut_slice-head.result.now ≡ c.self.inside.head.items = c.as_mut_slice-head.ensures.value in
+    let tail_is : c.as_mut_slice-tail.result.now ≡ c.self.inside.tail.items = c.as_mut_slice-tail.ensures.value in
+    let heads = with_items_is c.self.inside.head c.raise_heads-heads.new.into
+    (c.raise_heads-heads.auto.into ∙ c.as_mut_slice-head.ensures.len) in
+    let tails = with_items_is c.self.inside.tail c.raise_tails-tails.new.into
+    (c.raise_tails-tails.auto.into ∙ c.as_mut_slice-tail.ensures.len) in
+    record {
+      heads_within = λ u on. rw (← c.requires.ordered.same_boxes) (c.raise_heads-heads.ensures.within u on);
+      tails_within = λ u on. rw (← c.requires.ordered.same_boxes) (c.raise_tails-tails.ensures.within u on);
+      heads_stay = λ u off. rw (← c.self.view_is, heads)
+          (c.raise_heads-heads.ensures.stays u off ∙ ap (λ (l : List ℕ). slice_index l u) head_is);
+      tails_stay = λ u off. rw (← c.self.view_is, tails)
+          (c.raise_tails-tails.ensures.stays u off ∙ ap (λ (l : List ℕ). slice_index l u) tail_is);
+    }

@@ -1,6 +1,6 @@
 use Rattle.std.proofs.Common.{◌≡◌}
 use Rattle.orientation_rules.specs.CachedChainWeights.{AreKeptLevels}
-use Rattle.orientation_rules.proofs.levels.ChainWeightCache.renew_newest.Given as goal
+use Rattle.orientation_rules.proofs.levels.ChainWeightCache.restore_newest.Given as goal
 
 abbrev pub invariant-loop-self : goal.invariant-loop-self
 invariant-loop-self g l = record {

@@ -1,5 +1,5 @@
 use Rattle.std.proofs.Common.{arith}
-use Rattle.orientation_rules.proofs.kept.drop_risen.Goals as goal
+use Rattle.orientation_rules.proofs.fits.drop_risen.Goals as goal
 
 pub returns-clause-left : goal.returns-clause-left
 returns-clause-left g c u x l on =

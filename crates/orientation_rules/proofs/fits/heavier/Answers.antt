@@ -3,7 +3,7 @@ use Rattle.std.proofs.lemmas.Bool.{and_parts, lt-ltb}
 use Rattle.edge_state.specs.BitRows.{row_has}
 use Rattle.edge_state.proofs.RowBits.{members_fewer}
 use Rattle.orientation_rules.proofs.OverLong.{heavier_take}
-use Rattle.orientation_rules.proofs.kept.heavier.Goals as goal
+use Rattle.orientation_rules.proofs.fits.heavier.Goals as goal
 
 pub loop-v-smaller : goal.loop-v-smaller
 loop-v-smaller g c =

@@ -1,6 +1,6 @@
 use Rattle.std.proofs.Common.{◌≡◌, ◌*◌, ◌<◌, ◌&&◌, ◌||◌, ℕ, true, nat_lt, length, slice_index}
 use Rattle.edge_state.specs.BitRows.{row_has, members_below}
-use Rattle.orientation_rules.proofs.kept.heavier.Given as goal
+use Rattle.orientation_rules.proofs.fits.heavier.Given as goal
 
 abbrev pub invariant-loop-v : goal.invariant-loop-v
 invariant-loop-v g l = record {

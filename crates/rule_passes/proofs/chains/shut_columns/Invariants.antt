@@ -1,0 +1,17 @@
+use Rattle.std.proofs.Common.{◌≡◌, ◌<◌, ◌*◌, ℕ, true, false}
+use Rattle.packing_terms.specs.Packing.{box_count}
+use Rattle.edge_state.specs.BitRows.{row_has, members_below}
+use Rattle.edge_state.specs.Passes.{IsPass, IsChainChecked}
+use Rattle.rule_passes.proofs.chains.shut_columns.Given as goal
+
+abbrev pub invariant-loop-v : goal.invariant-loop-v
+invariant-loop-v g l = record {
+  same : l.kept ≡ l.fn.kept;
+  within : (v : ℕ) → row_has l.rest v ≡ true → v < box_count l.instance;
+  pass : IsPass l.instance l.fn.state l.state
+      (λ es. (v : ℕ) → row_has l.fn.row v ≡ true → row_has l.rest v ≡ false → (u : ℕ) → u < box_count l.instance
+      → IsChainChecked l.instance l.dim l.fn.kept.weights.head l.fn.kept.weights.tail u v es);
+}
+
+abbrev pub decreases-loop-v : goal.decreases-loop-v
+decreases-loop-v g l = members_below (row_has l.rest) (64 * g.row.K)
