@@ -1,5 +1,5 @@
 -- Passes over the members of a row, one after another.
-use Rattle.std.proofs.Common.{◌≡◌, ◌≢◌, ℕ, ◌⊎◌, inl, inr, sym, subst, ◌∙◌, Bool, true, false, not, eqb, ◌&&◌, List}
+use Rattle.std.proofs.Common.{◌≡◌, ℕ, ◌⊎◌, inl, inr, sym, subst, ◌∙◌, Bool, true, false, not, eqb, ◌&&◌, List}
 use Rattle.std.proofs.lemmas.Bool.{true≢false, cases_eq}
 use Rattle.packing_terms.specs.declared.Exclusion.{Exclusion}
 use Rattle.packing_terms.specs.Packing.{PlainInstance}

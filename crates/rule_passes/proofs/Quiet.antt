@@ -12,7 +12,7 @@ use Rattle.packing_terms.specs.Exclusions.{Exclusions, excludes, is_same_rel, ex
 use Rattle.packing_terms.specs.Rules.{Rule, Apart, IsRuleInstance, Premises}
 use Rattle.packing_terms.proofs.Sets.{excludes_symmetric}
 use Rattle.packing_terms.specs.Places.{HasNoEmptyMask}
-use Rattle.packing_terms.specs.Applied.{Adds, added, mirror_added, is_narrowed, IsApplied}
+use Rattle.packing_terms.specs.Applied.{Extends, Adds, added, mirror_added, is_narrowed, IsApplied}
 use Rattle.packing_terms.specs.Steps.{with_exclusion}
 use Rattle.packing_terms.proofs.Applied.{applied_by}
 use Rattle.edge_state.specs.Edges.{PlainEdges}
@@ -91,6 +91,19 @@ worked_emptied instance a b true R P h w = record {
 }
 worked_emptied instance a b false R P h w = w
 
+-- what ends at an empty mask covers all
+pub worked_shut : (instance : PlainInstance) (a b : PlainEdges) (lost : Bool) (R : Rule → Type 0) → lost ≡ true
+    → b ≡ record a { trail = b.trail } → Extends instance a.trail b.trail → HasEmptyMask instance (excludes b.trail)
+    → HasApplied instance a b lost R
+worked_shut instance a b lost R e sizes more empty = record {
+  same_dims = ap (λ (s : PlainEdges). s.dims) sizes;
+  same_boxes = ap (λ (s : PlainEdges). s.boxes) sizes;
+  same_box_capacity = ap (λ (s : PlainEdges). s.room) sizes;
+  extends = more;
+  empty = λ f. empty;
+  done = λ f. absurd (true≢false (sym e ∙ f));
+}
+
 -- nothing is to be done for joined, ordered and not before
 pub none_both : (instance : PlainInstance) (s : PlainEdges) (j u v : ℕ) (left turned stale : Rel → Bool)
     → ((r : Rel) → turned r ≡ left (mirror r))
@@ -148,17 +161,17 @@ worked_pieces instance s t lost j u v left turned stale there hl ht h = record {
     go full done rule (inl (inl (inr (g, inl (inr r))))) = done rule (inr (inr (inl (g, inl r))))
     go full done rule (inl (inl (inr (g, inr (inl r))))) = done rule (inr (inl (g, inr r)))
     go full done rule (inl (inl (inr (g, inr (inr r))))) = done rule (inr (inr (inl (g, inr r))))
-    go full done rule (inl (inr (inl (inl (g, inl r))))) = done rule (inr (inr (inr (inl (g, r)))))
-    go full done rule (inl (inr (inl (inl (g, inr r))))) = done rule (inr (inr (inr (inr (inl (inl (inl (g, r))))))))
-    go full done rule (inl (inr (inl (inr r)))) = done rule (inr (inr (inr (inr (inl (inl (inr r)))))))
-    go full done rule (inl (inr (inr r))) = done rule (inr (inr (inr (inr (inl (inr r))))))
+    go full done rule (inl (inr (inl (inl (g, inl r))))) = done rule (inr (inr (inr (inr (g, r)))))
+    go full done rule (inl (inr (inl (inl (g, inr r))))) = done rule (inr (inr (inr (inl (inl (inl (inl (g, r))))))))
+    go full done rule (inl (inr (inl (inr r)))) = done rule (inr (inr (inr (inl (inl (inl (inr r)))))))
+    go full done rule (inl (inr (inr r))) = done rule (inr (inr (inr (inl (inl (inr r))))))
     go full done rule (inr (inl (inl (g, inl r)))) =
         named_apart instance s.trail t.trail rule r.0 u v r.2.1
         (done (Apart r.0 u v)
-        (inr (inr (inr (inl ((sym (ht After) ∙ g.1, sym (ht Before) ∙ g.0), (r.0, r.1, (r.2.0, refl))))))))
-    go full done rule (inr (inl (inl (g, inr r)))) = done rule (inr (inr (inr (inr (inr (inl (inl (g, r))))))))
-    go full done rule (inr (inl (inr r))) = done rule (inr (inr (inr (inr (inr (inl (inr r)))))))
-    go full done rule (inr (inr r)) = done rule (inr (inr (inr (inr (inr (inr r))))))
+        (inr (inr (inr (inr ((sym (ht After) ∙ g.1, sym (ht Before) ∙ g.0), (r.0, r.1, (r.2.0, refl))))))))
+    go full done rule (inr (inl (inl (g, inr r)))) = done rule (inr (inr (inr (inl (inr (inl (inl (g, r))))))))
+    go full done rule (inr (inl (inr r))) = done rule (inr (inr (inr (inl (inr (inl (inr r)))))))
+    go full done rule (inr (inr r)) = done rule (inr (inr (inr (inl (inr (inr r))))))
 
     all : HasNoEmptyMask instance (excludes s.trail) → HasApplied instance s t lost (IsDue (λ r. not (stale r)) j u v)
     all full = worked_guarded instance s t lost j u v stale (left Overlap) (left Before) (left After) (turned Overlap)

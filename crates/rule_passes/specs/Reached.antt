@@ -70,11 +70,11 @@ abbrev pub IsReachedBoth : PlainInstance → ℕ → ℕ → ℕ → (left turne
 IsReachedBoth instance j u v left turned stale rule =
     IsReachedRest instance j u v left (stale Before) rule ⊎ IsReachedRest instance j v u turned (stale After) rule
 
--- those with APART in one order, which adds the same in both
+-- those, and APART in one order, which adds the same in both
 abbrev pub IsReachedNear : PlainInstance → ℕ → ℕ → ℕ → (left turned stale : Rel → Bool) → Rule → Type 0
 IsReachedNear instance j u v left turned stale rule =
-    (((left Before ≡ false) × (left After ≡ false)) × Aparts instance j u v rule)
-    ⊎ IsReachedBoth instance j u v left turned stale rule
+    IsReachedBoth instance j u v left turned stale rule
+    ⊎ (((left Before ≡ false) × (left After ≡ false)) × Aparts instance j u v rule)
 
 -- those of CYCLE that ask for apart, and these
 abbrev pub IsReachedChorded : PlainInstance → ℕ → ℕ → ℕ → (left turned stale : Rel → Bool) → Rule → Type 0

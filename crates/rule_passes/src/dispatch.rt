@@ -13,17 +13,19 @@ ghost use Rattle.relation_table.specs.Masks.{mask_has};
 ghost use Rattle.edge_state.specs.BitRows.{HoldsBoxes, row_has};
 ghost use Rattle.edge_state.specs.States.{IsSized};
 ghost use Rattle.edge_state.specs.Work.{HasApplied, IsDue};
-ghost use Rattle.rule_passes.specs.Reached.{BoundsSides, IsReachedBoth, IsReachedChorded, IsReachedLater};
+ghost use Rattle.rule_passes.specs.Reached.{BoundsSides, IsReachedBoth, IsReachedChorded, IsReachedLater, IsReachedNear};
 
 use crate::composing::spread_composed;
 use crate::edges::{apply_apart_if_joined, spread_apart, spread_chords, spread_from};
+use crate::long_chains::shut_long_chain;
 use crate::prechecks::{may_compose, may_spread_apart, may_spread_both, may_spread_chords};
 use box_instances::Instance;
+use early_chains::ChainEstimates;
 use edge_state::{BitRow, EdgeState, Mask, Rel};
 use relation_table::flip;
 
 // The same in both orders. The mask is given, and the flipped one.
-#[inline(never)]
+#[inline(always)]
 fn spread_both<const K: usize>(
     instance: &Instance,
     state: &mut EdgeState,
@@ -53,8 +55,37 @@ fn spread_both<const K: usize>(
     spread_from(instance, state, all, dim, v, u, turned, back)
 }
 
-// The same with APART, which adds the same in both orders, and with the instances of CYCLE that ask
-// for two boxes that are apart.
+// The same, and APART, which adds the same in both orders. It comes last, since it reads and writes
+// masks of other dimensions: up to it the tests in both orders share the rows that they read.
+#[inline(never)]
+fn spread_near<const K: usize>(
+    instance: &Instance,
+    state: &mut EdgeState,
+    all: BitRow<K>,
+    dim: u32,
+    u: u32,
+    v: u32,
+    left: Mask,
+    turned: Mask,
+    stale: Mask,
+) -> bool
+    requires words { HoldsBoxes K (box_count instance.now) }
+    requires sizes { IsSized instance.now state.old dim }
+    requires u { u < box_count instance.now }
+    requires v { v < box_count instance.now }
+    requires distinct { u ≡ v → ⊥ }
+    requires all { (x : ℕ) → row_has all x ≡ nat_lt x (box_count instance.now) }
+    ensures { HasApplied instance.now state.old state.new result
+        (IsReachedNear instance.now dim u v (mask_has left) (mask_has turned)
+        (mask_has stale)) }
+{
+    if spread_both(instance, state, all, dim, u, v, left, turned, stale) {
+        return true;
+    }
+    apply_apart_if_joined::<K>(instance, state, dim, u, v, left)
+}
+
+// The instances of CYCLE that ask for two boxes that are apart, and then the same.
 #[inline(never)]
 fn spread_chorded<const K: usize>(
     instance: &Instance,
@@ -80,10 +111,7 @@ fn spread_chorded<const K: usize>(
     if spread_chords(instance, state, all, dim, u, v, left, stale) {
         return true;
     }
-    if apply_apart_if_joined::<K>(instance, state, dim, u, v, left) {
-        return true;
-    }
-    spread_both(instance, state, all, dim, u, v, left, turned, stale)
+    spread_near(instance, state, all, dim, u, v, left, turned, stale)
 }
 
 // The instances other than those of COMPOSE and TRIPLE. Mostly nothing follows: what may follow is
@@ -114,13 +142,10 @@ fn propagate_if_any<const K: usize>(
     if may_spread_chords(instance, state, all, dim, u, v, left, stale) {
         return spread_chorded(instance, state, all, dim, u, v, left, turned, stale);
     }
-    if apply_apart_if_joined::<K>(instance, state, dim, u, v, left) {
-        return true;
-    }
     if may_spread_both(instance, state, all, dim, u, v, left, turned, stale) {
-        return spread_both(instance, state, all, dim, u, v, left, turned, stale);
+        return spread_near(instance, state, all, dim, u, v, left, turned, stale);
     }
-    false
+    apply_apart_if_joined::<K>(instance, state, dim, u, v, left)
 }
 
 // The instances other than those of COMPOSE.
@@ -252,7 +277,43 @@ fn but(rel: Rel) -> Mask
     Mask::all().without(rel)
 }
 
-/// All instances that read the mask of an edge, which is given, up to those that add the same.
+// The same where `first`, one of the two boxes, is surely before the other one, `second`: at first a
+// chain through both may be too long.
+#[inline(always)]
+fn propagate_order<const K: usize>(
+    instance: &Instance,
+    state: &mut EdgeState,
+    guess: &mut ChainEstimates,
+    all: BitRow<K>,
+    dim: u32,
+    u: u32,
+    v: u32,
+    first: u32,
+    second: u32,
+    left: Mask,
+    stale: Mask,
+    most: u32,
+) -> bool
+    requires words { HoldsBoxes K (box_count instance.now) }
+    requires sizes { IsSized instance.now state.old dim }
+    requires u { u < box_count instance.now }
+    requires v { v < box_count instance.now }
+    requires distinct { u ≡ v → ⊥ }
+    requires all { (x : ℕ) → row_has all x ≡ nat_lt x (box_count instance.now) }
+    requires left { (r : PlainRel) → mask_has left r ≡ not (excludes state.old.trail dim u v r) }
+    requires most { BoundsSides instance.now dim most }
+    ensures { HasApplied instance.now state.old state.new result
+        (λ rule. HasNoEmptyMask instance.now (excludes state.old.trail)
+        × IsDue (λ r. not (mask_has stale r)) dim u v rule) }
+{
+    if shut_long_chain::<K>(instance, state, guess, dim, first, second) {
+        return true;
+    }
+    propagate_mask(instance, state, all, dim, u, v, left, stale, most)
+}
+
+/// All instances that read the mask of an edge, which is given, up to those that add the same. Where
+/// one box is surely before the other, a chain through both that is too long ends it at once.
 ///
 /// In each copy the mask is a constant, so what it rules out falls away when the copy is compiled.
 /// Looking through a change, neither the full mask nor the empty one comes.
@@ -260,6 +321,7 @@ fn but(rel: Rel) -> Mask
 pub(crate) fn spread<const K: usize>(
     instance: &Instance,
     state: &mut EdgeState,
+    guess: &mut ChainEstimates,
     all: BitRow<K>,
     dim: u32,
     u: u32,
@@ -283,9 +345,19 @@ pub(crate) fn spread<const K: usize>(
     let (overlap, before, after) = (Rel::Overlap, Rel::Before, Rel::After);
     match left.bits() {
         1 => propagate_mask(instance, state, all, dim, u, v, only(overlap), stale, most),
-        2 => propagate_mask(instance, state, all, dim, u, v, only(before), stale, most),
+        2 => {
+            let left = only(before);
+            propagate_order(
+                instance, state, guess, all, dim, u, v, u, v, left, stale, most,
+            )
+        }
         3 => propagate_mask(instance, state, all, dim, u, v, but(after), stale, most),
-        4 => propagate_mask(instance, state, all, dim, u, v, only(after), stale, most),
+        4 => {
+            let left = only(after);
+            propagate_order(
+                instance, state, guess, all, dim, u, v, v, u, left, stale, most,
+            )
+        }
         5 => propagate_mask(instance, state, all, dim, u, v, but(before), stale, most),
         6 => propagate_mask(instance, state, all, dim, u, v, but(overlap), stale, most),
         _ => apply_all_rules(instance, state, all, dim, u, v, left, stale, most),

@@ -11,6 +11,7 @@ mod dispatch;
 mod edges;
 mod empties;
 mod excluding;
+mod long_chains;
 mod orders;
 mod overlaps;
 mod pairs;

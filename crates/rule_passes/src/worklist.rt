@@ -1,5 +1,5 @@
 //! Going along what changed: the worklist is the newer part of the state's list of exclusions.
-ghost use Rattle.std.specs.Prelude.{◌≡◌, ◌<◌, ◌≤◌, ◌+◌, ◌-◌, ◌⊎◌, ℕ, true, false, not, nat_lt, length, drop, MatchOption, IfSome};
+ghost use Rattle.std.specs.Prelude.{◌≡◌, ◌<◌, ◌≤◌, ◌+◌, ◌-◌, ◌⊎◌, ℕ, true, false, not, nat_lt, length, drop, MatchOption};
 ghost use Rattle.packing_terms.specs.Packing.{dims, box_count};
 ghost use Rattle.packing_terms.specs.declared.Rel.{Rel as PlainRel};
 ghost use Rattle.packing_terms.specs.Exclusions.{excludes};
@@ -11,12 +11,12 @@ ghost use Rattle.edge_state.specs.Edges.{oldest};
 ghost use Rattle.edge_state.specs.States.{IsSized, HasEmptyMask};
 ghost use Rattle.edge_state.specs.Work.{IsUnordered, IsNextMark};
 ghost use Rattle.edge_state.specs.Work.{IsWorklistDone};
-ghost use Rattle.early_chains.specs.Lines.{IsTooLong};
 
 use crate::dispatch::spread;
 use crate::empties::is_empty_left;
+use crate::rows::pick;
 use box_instances::Instance;
-use early_chains::{ChainEstimates, apply_long_chain};
+use early_chains::ChainEstimates;
 use edge_state::{BitRow, EdgeState, Exclusion, Mark, Mask, Rel};
 
 // The position of the list after a change. Beside it the relations whose exclusion is stale: all but
@@ -39,39 +39,21 @@ fn orders(state: &EdgeState, change: Exclusion, left: Mask) -> bool
     !left.has(Rel::Overlap) & !(left.has(Rel::Before) & left.has(Rel::After))
 }
 
-// The dimensions in which CHAIN is to be looked at, with that of a change that orders its boxes. If
-// it does, two boxes come with them where a chain is found that is too long.
+// The dimensions in which CHAIN is to be looked at, with that of a change that orders its boxes: by a
+// choice of two rows, since a branch would often be predicted wrongly.
 #[inline(always)]
-fn ordered<const K: usize>(
-    instance: &Instance,
-    state: &EdgeState,
-    guess: &mut ChainEstimates,
-    dirty: BitRow<1>,
-    change: Exclusion,
-    left: Mask,
-) -> (BitRow<1>, Option<(u32, u32)>)
-    requires words { HoldsBoxes K (box_count instance.now) }
-    requires sizes { IsSized instance.now state.now change.dim }
+fn with_ordered(state: &EdgeState, dirty: BitRow<1>, change: Exclusion, left: Mask) -> BitRow<1>
     requires dim { change.dim < 4 }
     requires left { (r : PlainRel) → mask_has left r
         ≡ not (excludes state.now.trail change.dim change.u change.v r) }
-    ensures clean { (i : ℕ) → row_has result.0 i ≡ false → row_has dirty i ≡ false }
-    ensures unordered { (i : ℕ) → row_has result.0 i ≡ false → change.dim ≡ i
+    ensures clean { (i : ℕ) → row_has result i ≡ false → row_has dirty i ≡ false }
+    ensures unordered { (i : ℕ) → row_has result i ≡ false → change.dim ≡ i
         → IsUnordered (excludes state.now.trail) change }
-    ensures within { (i : ℕ) → row_has result.0 i ≡ true → (i ≡ change.dim)
+    ensures within { (i : ℕ) → row_has result i ≡ true → (i ≡ change.dim)
         ⊎ (row_has dirty i ≡ true) }
-    ensures long { IfSome result.1
-        (λ p. IsTooLong instance.now (excludes state.now.trail) change.dim p.0 p.1) }
 {
-    let (dim, u, v) = (change.dim, change.u, change.v);
-    if !orders(state, change, left) {
-        return (dirty, None);
-    }
-    let more = dirty.with(dim);
-    if left.has(Rel::Before) {
-        return (more, guess.find_long_chain::<K>(instance, state, dim, u, v));
-    }
-    (more, guess.find_long_chain::<K>(instance, state, dim, v, u))
+    let more = BitRow::empty().with(change.dim);
+    dirty.or(pick(more, orders(state, change, left)))
 }
 
 /// Looks through the exclusions that came after a position of the list, and those that follow, the
@@ -109,15 +91,11 @@ pub(crate) fn drain_worklist<const K: usize>(
         if is_empty_left(instance, state, change.dim, change.u, change.v, left) {
             return None;
         }
-        let (more, long) = ordered::<K>(instance, state, guess, chains, change, left);
-        if let Some((a, b)) = long {
-            apply_long_chain(instance, state, change.dim, a, b);
-            return None;
-        }
+        let more = with_ordered(state, chains, change, left);
         let (after, stale) = behind(state, next, change);
         let most = instance.longest_side(change.dim);
         if spread(
-            instance, state, all, change.dim, change.u, change.v, left, stale, most,
+            instance, state, guess, all, change.dim, change.u, change.v, left, stale, most,
         ) {
             return None;
         }

@@ -1,7 +1,4 @@
-use Rattle.std.proofs.Common.{◌≡◌, ◌∙◌, ◌<◌, ℕ, ap, rules, true, false}
-use Rattle.packing_terms.specs.Packing.{box_count}
-use Rattle.edge_state.specs.BitRows.{row_has}
-use Rattle.edge_state.specs.Passes.{IsChainChecked}
+use Rattle.std.proofs.Common.{◌∙◌, ap, rules}
 use Rattle.edge_state.proofs.Passes.{pass_as, sizes_passed, heads_more, tails_more}
 use Rattle.orientation_rules.specs.CachedChainWeights.{PlainLevels}
 use Rattle.rule_passes.proofs.ChainPasses.{chains_passed}

@@ -52,7 +52,7 @@ loop-v-smaller g c =
 pub loop-v-preserved : goal.loop-v-preserved
 loop-v-preserved g c =
     let P : ℕ → List Exclusion → Type 0 = λ v es. (u : ℕ) → u < box_count c.args.instance.now
-      → IsChainChecked c.args.instance.now c.args.dim c.args.kept.now.weights.head c.args.kept.now.weights.tail u v es in
+    → IsChainChecked c.args.instance.now c.args.dim c.args.kept.now.weights.head c.args.kept.now.weights.tail u v es in
     record {
       same = c.shut_to.ensures.kept ∙ c.loop-v.invariant.same;
       within = λ v on. c.loop-v.invariant.within v (and_parts _ _ (sym (c.without-rest.ensures v) ∙ on)).0;

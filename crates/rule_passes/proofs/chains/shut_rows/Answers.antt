@@ -52,7 +52,7 @@ loop-u-smaller g c =
 pub loop-u-preserved : goal.loop-u-preserved
 loop-u-preserved g c =
     let P : ℕ → List Exclusion → Type 0 = λ u es. (v : ℕ) → v < box_count c.args.instance.now
-      → IsChainChecked c.args.instance.now c.args.dim c.args.kept.now.weights.head c.args.kept.now.weights.tail u v es in
+    → IsChainChecked c.args.instance.now c.args.dim c.args.kept.now.weights.head c.args.kept.now.weights.tail u v es in
     record {
       same = c.shut_from.ensures.kept ∙ c.loop-u.invariant.same;
       within = λ u on. c.loop-u.invariant.within u (and_parts _ _ (sym (c.without-rest.ensures u) ∙ on)).0;

@@ -1,4 +1,4 @@
-use Rattle.std.proofs.Common.{◌+◌, ◌<◌, Bool, ℕ, arith, rules, nat_lt, slice_index}
+use Rattle.std.proofs.Common.{◌+◌, Bool, ℕ, arith, rules, nat_lt, slice_index}
 use Rattle.packing_terms.specs.Exclusions.{excludes}
 use Rattle.packing_terms.specs.declared.Rel.TheVariants.{After}
 use Rattle.edge_state.specs.BitRows.{row_has}

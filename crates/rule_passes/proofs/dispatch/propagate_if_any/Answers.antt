@@ -3,12 +3,9 @@ use Rattle.packing_terms.specs.declared.Rel.TheVariants.{Overlap, Before, After}
 use Rattle.packing_terms.specs.Rules.{Rule}
 use Rattle.relation_table.specs.Masks.{mask_has}
 use Rattle.edge_state.specs.Instances.{Aparts, Chords}
-use Rattle.edge_state.proofs.Worked.{worked_then, worked_kept, worked_lost_first}
+use Rattle.edge_state.proofs.Worked.{worked_then}
 use Rattle.rule_passes.specs.Reached.{IsReachedBoth, IsReachedNear}
 use Rattle.rule_passes.proofs.dispatch.propagate_if_any.Goals as goal
-
-pub returns-then-apply_apart_if_joined : goal.returns-then-apply_apart_if_joined
-returns-then-apply_apart_if_joined g c = worked_lost_first _ _ _ _ _ _ c.if-apply_apart_if_joined.true c.apply_apart_if_joined.ensures
 
 pub returns-then-may_spread_both : goal.returns-then-may_spread_both
 returns-then-may_spread_both g c =
@@ -16,16 +13,10 @@ returns-then-may_spread_both g c =
     let chorded : Rule → Type 0 = λ rule. ((mask_has c.args.left Overlap ≡ false)
     × (mask_has c.args.stale Overlap ≡ false))
     × (Chords instance c.args.dim c.args.u c.args.v rule ⊎ Chords instance c.args.dim c.args.v c.args.u rule) in
-    let beside : Rule → Type 0 = λ rule. ((mask_has c.args.left Before ≡ false) × (mask_has c.args.left After ≡ false))
-    × Aparts instance c.args.dim c.args.u c.args.v rule in
-    let both : Rule → Type 0 = IsReachedBoth instance c.args.dim c.args.u c.args.v (mask_has c.args.left)
-    (mask_has c.args.turned) (mask_has c.args.stale) in
     let rest : Rule → Type 0 = IsReachedNear instance c.args.dim c.args.u c.args.v (mask_has c.args.left)
     (mask_has c.args.turned) (mask_has c.args.stale) in
     worked_then instance _ _ _ _ chorded rest (c.may_spread_chords.ensures c.if-may_spread_chords.false)
-    (worked_then instance _ _ _ _ beside both
-    (worked_kept instance _ _ _ beside c.if-apply_apart_if_joined.false c.apply_apart_if_joined.ensures)
-    c.spread_both.ensures)
+    c.spread_near.ensures
 
 pub returns : goal.returns
 returns g c =
@@ -40,6 +31,5 @@ returns g c =
     let rest : Rule → Type 0 = IsReachedNear instance c.args.dim c.args.u c.args.v (mask_has c.args.left)
     (mask_has c.args.turned) (mask_has c.args.stale) in
     worked_then instance _ _ _ _ chorded rest (c.may_spread_chords.ensures c.if-may_spread_chords.false)
-    (worked_then instance _ _ _ _ beside both
-    (worked_kept instance _ _ _ beside c.if-apply_apart_if_joined.false c.apply_apart_if_joined.ensures)
-    (c.may_spread_both.ensures c.if-may_spread_both.false))
+    (worked_then instance _ _ _ _ both beside (c.may_spread_both.ensures c.if-may_spread_both.false)
+    c.apply_apart_if_joined.ensures)

@@ -41,27 +41,12 @@ is_empty_left-requires g c =
       left = c.mask_in-left.ensures;
     }
 
-pub ordered-more-requires-clause-sizes : goal.ordered-more-requires-clause-sizes
-ordered-more-requires-clause-sizes g c =
-    let s = c.loop-change.state in
-    let edge = change_edge s.dims s.boxes s.trail c.loop-change.next _ c.in-Some.change
-    c.dims-sizes.ensures.limits.trail c.in-Some.ensures in
-    record {
-      same_dims = c.loop-change.invariant.same_dims ∙ c.requires.dims;
-      same_boxes = c.loop-change.invariant.same_boxes ∙ c.requires.boxes;
-      there = omega (arith, edge.dim, c.loop-change.invariant.same_dims, c.requires.dims);
-    }
-
-pub ordered-more-requires-clause-dim : goal.ordered-more-requires-clause-dim
-ordered-more-requires-clause-dim g c =
+pub with_ordered-more-requires-clause-dim : goal.with_ordered-more-requires-clause-dim
+with_ordered-more-requires-clause-dim g c =
     let s = c.loop-change.state in
     let edge = change_edge s.dims s.boxes s.trail c.loop-change.next _ c.in-Some.change
     c.dims-sizes.ensures.limits.trail c.in-Some.ensures in
     omega (arith, edge.dim, c.dims-sizes.ensures.limits.dimensions.1)
-
-pub returns-in-Some-long-clause-extends : goal.returns-in-Some-long-clause-extends
-returns-in-Some-long-clause-extends g c =
-    extends_trans _ _ _ _ c.loop-change.invariant.extends c.apply_long_chain.ensures.extends
 
 pub longest_side-most-requires : goal.longest_side-most-requires
 longest_side-most-requires g c =
@@ -143,7 +128,7 @@ loop-change-preserved g c =
       looked = looked_step c.args.instance.now _ _ c.in-Some.change _ _ _ _ _ here c.if-is_empty_left.ensures work
           change
           c.behind-after.ensures
-          c.ordered-more.ensures.clean c.ordered-more.ensures.unordered c.ordered-more.ensures.within
+          c.with_ordered-more.ensures.clean c.with_ordered-more.ensures.unordered c.with_ordered-more.ensures.within
           c.loop-change.invariant.looked;
       still = λ e. absurd (omega (arith, e, c.loop-change.invariant.later, past.0));
     }
