@@ -18,8 +18,8 @@ use work_share::{Gate, Node, Settings, Tree, solve_shared};
 
 // One worker explores a tree up to this many branchings first. Most levels end within it, in less
 // time than several workers take to start, and what it decided they find in the sets that all
-// share. Without it four workers took 1.3 to 1.7 times as long as one for knapsacks of 60 and 100
-// boxes with proposals and a budget of 10,000.
+// share. Without it, and with one lock for these sets, four workers took 1.3 to 1.7 times as long as
+// one for knapsacks of 36 to 100 boxes with proposals and budgets of 10,000 and 50,000.
 const ALONE_BUDGET: u64 = 16_384;
 
 // The choice tree, with the search from whose pool each task takes one. It is seen as that tree.

@@ -136,9 +136,9 @@ impl<'a> KnownSplit<'a> {
 //
 // A worker that explores the node of a kept walk resumes it, and one that splits the node of a walk
 // takes the split from there: from the root on, that would take a closure for each step of the
-// path. Nothing depends on what the lists hold: each entry is right for its node. If a list stays in
-// use by another thread, or there is no memory for an entry, the walk is lost and its node is begun
-// anew.
+// path. Nothing depends on what the lists hold: each entry is right for its node. If a list stays
+// in use by another thread, or there is no memory for an entry, the walk is lost and its node is
+// begun anew.
 #[derive(Drop)]
 pub(crate) struct ResumableTree<'a> {
     tree: &'a ClassTree<'a>,
@@ -158,8 +158,8 @@ impl<'a> Model for ResumableTree<'a> {
 // less time than `MAX_LOCK_TRIES` tries.
 const MAX_LOCK_TRIES: u32 = 10_000;
 
-// Tries to lock a list, at most `MAX_LOCK_TRIES` times. It never blocks, because `Tree::explore` has
-// no runtime handle with `Wait`.
+// Tries to lock a list, at most `MAX_LOCK_TRIES` times. It never blocks, because `Tree::explore`
+// has no runtime handle with `Wait`.
 fn try_lock_pieces<'b, T>(room: &'b Mutex<Vec<T>>) -> Option<MutexGuard<'b, Vec<T>>> {
     for _ in 0..MAX_LOCK_TRIES {
         if let Some(guard) = room.try_lock() {

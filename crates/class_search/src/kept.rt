@@ -46,8 +46,8 @@ pub(crate) enum WalkSplit<'a> {
     Second(Refuted, PausedWalk<'a>),
 }
 
-// What a walk leaves where it has gone on to a child: the split of its node, and what is left to the
-// children.
+// What a walk leaves where it has gone on to a child: the split of its node, and what is left to
+// the children.
 #[derive(Drop)]
 pub(crate) struct Division<'a> {
     pub node: Node,

@@ -111,8 +111,8 @@ fn test_fitting_root(
     }
 }
 
-// Tests the root of a class tree. It closes the state, but where a box is longer than the container.
-// No order of pairs is needed for it: most sets of an outer search go no further.
+// Tests the root of a class tree. It closes the state, but where a box is longer than the
+// container. No order of pairs is needed for it: most sets of an outer search go no further.
 pub(crate) fn test_root(
     alloc: Global,
     instance: &Instance,

@@ -108,8 +108,8 @@ pub fn check_document<S: Source>(alloc: Global, heading: Heading, input: &mut S)
     check_from(alloc, input, &mut at, HeadReader::new(alloc, heading))
 }
 
-/// Reads the rest of a document whose heading names `job`. `count` bytes were taken before, up to the
-/// line feed of the heading, and `lexer` is what is held after them.
+/// Reads the rest of a document whose heading names `job`. `count` bytes were taken before, up to
+/// the line feed of the heading, and `lexer` is what is held after them.
 ///
 /// Like `check_document`, but behind these bytes: the limit is that of all bytes, and lines are
 /// counted from the first of all.

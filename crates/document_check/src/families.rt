@@ -1,5 +1,5 @@
-//! The rest of a bounded document of a height behind its places: `proof`, a refutation with families
-//! of another height, and `end`.
+//! The rest of a bounded document of a height behind its places: `proof`, a refutation with
+//! families of another height, and `end`.
 ghost use Rattle.std.specs.Prelude.{◌≡◌, ◌≤◌, None, []};
 ghost use Rattle.packing_terms.specs.Packing.{dims};
 ghost use Rattle.verdict_terms.specs.Checking.{starting};

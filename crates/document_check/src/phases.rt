@@ -177,8 +177,8 @@ fn check_plain_misfit<S: Source>(
     }
 }
 
-// `proof`, a tree that refutes that the boxes fit at this level, and `end`. In a bounded document it
-// is a tree with families.
+// `proof`, a tree that refutes that the boxes fit at this level, and `end`. In a bounded document
+// it is a tree with families.
 fn check_misfit<S: Source>(
     alloc: Global,
     input: &mut S,
@@ -324,7 +324,8 @@ pub(crate) fn check_heights<S: Source>(
     check_placed(alloc, input, at, head, &held, &lower)
 }
 
-/// One token that a box exceeds the container in one of the first `dim_count` dimensions, and `end`.
+/// One token that a box exceeds the container in one of the first `dim_count` dimensions, and
+/// `end`.
 pub(crate) fn check_exceeding<S: Source>(
     alloc: Global,
     input: &mut S,

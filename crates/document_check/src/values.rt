@@ -119,8 +119,8 @@ fn check_bounded_value<S: Source>(
     }
 }
 
-/// The taken boxes of one value, `proof`, a tree that refutes another value, and `end`. In a bounded
-/// document leaves of the tree may be priced out.
+/// The taken boxes of one value, `proof`, a tree that refutes another value, and `end`. In a
+/// bounded document leaves of the tree may be priced out.
 pub(crate) fn check_values<S: Source>(
     alloc: Global,
     input: &mut S,

@@ -82,8 +82,8 @@ fn is_outside(reason: Option<Reason>) -> bool
     }
 }
 
-/// Why the places of the boxes of `bin_count` bins are refused, if they are: the first box that leaves
-/// the container, by bins and numbers, and only where none does the first two that overlap.
+/// Why the places of the boxes of `bin_count` bins are refused, if they are: the first box that
+/// leaves the container, by bins and numbers, and only where none does the first two that overlap.
 pub fn bins_reason(
     alloc: Global,
     instance: &Instance,

@@ -9,7 +9,8 @@ use crate::refills::{drop_members, empty_rows};
 use edge_state::{BitRow, EdgeState, Rel};
 
 // Leaves in each row only boxes that it has and whose tail didn't rise, and none where the head of
-// the row's box rose. All rows lose the same boxes, in a loop without a branch, and few are emptied.
+// the row's box rose. All rows lose the same boxes, in a loop without a branch, and few are
+// emptied.
 pub(crate) fn drop_risen<const K: usize>(heads: BitRow<K>, tails: BitRow<K>, fits: &mut [BitRow<K>])
     requires { IsRowWidth K }
     ensures count { length fits.new ≡ length fits.old }

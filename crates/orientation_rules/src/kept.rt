@@ -78,8 +78,8 @@ fn with_if_any<const K: usize>(row: BitRow<K>, number: u32, other: BitRow<K>) ->
     }
 }
 
-// Adds a box to `ahead` if its row isn't what it was. Answers whether it has all that it had. Mostly
-// nothing changed, which one comparison shows.
+// Adds a box to `ahead` if its row isn't what it was. Answers whether it has all that it had.
+// Mostly nothing changed, which one comparison shows.
 #[inline]
 fn add_changed<const K: usize>(
     ahead: &mut BitRow<K>,
@@ -278,8 +278,8 @@ impl<const K: usize> CachedChainWeights<K> {
     }
 
     /// Whether weights of a state can be made from them: they are of as many boxes with the same
-    /// sides, the limit is the container's side, and the boxes of each row still follow its box in a
-    /// chain. If so, `ahead` becomes a row of boxes with all that some other box follows too.
+    /// sides, the limit is the container's side, and the boxes of each row still follow its box in
+    /// a chain. If so, `ahead` becomes a row of boxes with all that some other box follows too.
     pub fn holds(
         &self,
         instance: &Instance,
@@ -331,8 +331,8 @@ impl<const K: usize> CachedChainWeights<K> {
         unknown_in(state, dim, self.fits.as_slice()).is_empty()
     }
 
-    /// Makes them the weights of a state in which they still hold, where only boxes of `ahead` go on
-    /// to more than their rows show. Answers which weights may have risen.
+    /// Makes them the weights of a state in which they still hold, where only boxes of `ahead` go
+    /// on to more than their rows show. Answers which weights may have risen.
     pub fn raise(
         &mut self,
         instance: &Instance,

@@ -165,8 +165,8 @@ impl<const K: usize> ChainWeightCache<K> {
         Some(self.raise(instance, state, dim, all, ahead))
     }
 
-    // Makes the weights those of the newest level that serves. Those above it are given up. Answers a
-    // row with all boxes that go on to more than their rows show.
+    // Makes the weights those of the newest level that serves. Those above it are given up. Answers
+    // a row with all boxes that go on to more than their rows show.
     fn restore_newest(
         &mut self,
         instance: &Instance,
@@ -319,8 +319,8 @@ impl<const K: usize> ChainWeightCache<K> {
         self.used = at + 1;
     }
 
-    /// Ends a closing at this position of the state's list, and keeps its weights on top if one rose
-    /// in it.
+    /// Ends a closing at this position of the state's list, and keeps its weights on top if one
+    /// rose in it.
     pub fn finish(&mut self, end: Mark)
         requires { IsRowWidth K }
         ensures boxes { self.new.boxes ≡ self.old.boxes }

@@ -1,5 +1,5 @@
-//! Whether an exchange is open at the node for a value that the path leads to: a box that is out could
-//! take the place of one that is in.
+//! Whether an exchange is open at the node for a value that the path leads to: a box that is out
+//! could take the place of one that is in.
 ghost use Rattle.std.specs.Prelude.{◌≡◌, ◌<◌};
 ghost use Rattle.packing_terms.specs.Packing.{box_count};
 ghost use Rattle.packing_terms.specs.OuterRefutation.{no_choice};

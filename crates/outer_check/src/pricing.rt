@@ -200,9 +200,9 @@ fn demand(
 }
 
 /// The first test that a leaf that is priced out fails at the node for a value that the path leads
-/// to: `Kind` where the tuple hasn't a function for each dimension, `Range` where one isn't legal for
-/// its container side, else `Excess` where a box that is in doesn't fit alone, or where what is in
-/// and the undecided boxes may reach the value.
+/// to: `Kind` where the tuple hasn't a function for each dimension, `Range` where one isn't legal
+/// for its container side, else `Excess` where a box that is in doesn't fit alone, or where what is
+/// in and the undecided boxes may reach the value.
 pub(crate) fn price_refusal(
     instance: &Instance,
     path: &Path,

@@ -147,13 +147,13 @@ impl<'a> OuterRefuter<'a> {
     /// Takes the next token of a bounded refutation: a plain one as `feed` takes it, and a further
     /// leaf where it stands at an outer node for a value. It answers as `feed` does.
     ///
-    /// A further leaf is refused with `Kind` for bins and in the inner tree of a set. A leaf that is
-    /// priced out is refused with `Kind` where its tuple hasn't a function for each dimension; with
-    /// `Range` where a function isn't legal for its container side; else with `Excess` where a box
-    /// that is in doesn't fit alone, or where what is in and the undecided boxes may reach the goal.
-    /// An exchange is refused with `Range` where a number names no box, else with `Choice` where its
-    /// first box isn't out, its second isn't in, or the first doesn't come before the second. It
-    /// takes no memory.
+    /// A further leaf is refused with `Kind` for bins and in the inner tree of a set. A leaf that
+    /// is priced out is refused with `Kind` where its tuple hasn't a function for each dimension;
+    /// with `Range` where a function isn't legal for its container side; else with `Excess` where a
+    /// box that is in doesn't fit alone, or where what is in and the undecided boxes may reach the
+    /// goal. An exchange is refused with `Range` where a number names no box, else with `Choice`
+    /// where its first box isn't out, its second isn't in, or the first doesn't come before the
+    /// second. It takes no memory.
     pub fn feed_bounded(&mut self, token: &BoundedToken) -> FeedVerdict
         ensures step { self.new ≡ bounded_fed self.old (plain_bounded token.now) }
         ensures answer { result ≡ answered self.new }

@@ -216,9 +216,9 @@ impl<'a> Refuter<'a> {
     /// away as a leaf. Else the node stays open.
     ///
     /// An error is the code of the first test that fails: `After` if the tree was whole, `Range`
-    /// for a number that names no dimension or no box, and `Choice` for a conflict, a box that joins
-    /// twice and one that isn't apart from all others in the closure of the node. After a refusal
-    /// each further call answers the same. It takes no memory.
+    /// for a number that names no dimension or no box, and `Choice` for a conflict, a box that
+    /// joins twice and one that isn't apart from all others in the closure of the node. After a
+    /// refusal each further call answers the same. It takes no memory.
     pub fn join_family(
         &mut self,
         dim: u32,

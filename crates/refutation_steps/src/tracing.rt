@@ -34,9 +34,9 @@ struct Open {
     apart: Option<Spot>,
 }
 
-/// What is excluded on the way to a node, the oldest first, with what of it is needed, and what else
-/// the closing that is taken excludes; the nodes on that way; and the reasons of those that were
-/// left, by token.
+/// What is excluded on the way to a node, the oldest first, with what of it is needed, and what
+/// else the closing that is taken excludes; the nodes on that way; and the reasons of those that
+/// were left, by token.
 #[derive(Drop)]
 pub struct Trace {
     pub(crate) facts: Facts,

@@ -45,8 +45,8 @@ fn left_outside<const K: usize>(
 /// given: at all others whose mask with `v` isn't empty it adds nothing.
 ///
 /// A relation that is left of `u`, `v` allows itself of `u`, x, whatever is left of `v`, x, if
-/// anything is. So a relation is looked at only if it is gone from the mask. A full mask asks for no
-/// row.
+/// anything is. So a relation is looked at only if it is gone from the mask. A full mask asks for
+/// no row.
 #[inline(always)]
 pub(crate) fn beyond_compositions<const K: usize>(
     instance: &Instance,

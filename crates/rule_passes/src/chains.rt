@@ -14,7 +14,8 @@ use edge_state::{BitRow, EdgeState, Rel};
 use orientation_rules::ChainWeightCache;
 
 // CHAIN at box `u` and all boxes that it may be before. Returns whether that empties a mask. It
-// excludes the whole row at once, so the weights have to be those of the state before the row alone.
+// excludes the whole row at once, so the weights have to be those of the state before the row
+// alone.
 #[inline]
 fn shut_from<const K: usize>(
     instance: &Instance,
@@ -151,8 +152,8 @@ fn shut_columns<const K: usize>(
 /// those that were kept and are kept then. Answers whether a mask is empty; it stops there. Surely
 /// before is transitive in this dimension, and no mask is empty at first. `all` has all boxes.
 ///
-/// Mostly a few weights rose since a closing with which each two boxes fit. So only the rows of boxes
-/// whose heads rose and the columns of boxes whose tails rose are looked at.
+/// Mostly a few weights rose since a closing with which each two boxes fit. So only the rows of
+/// boxes whose heads rose and the columns of boxes whose tails rose are looked at.
 pub(crate) fn propagate_chains<const K: usize>(
     instance: &Instance,
     state: &mut EdgeState,

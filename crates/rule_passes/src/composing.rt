@@ -60,8 +60,9 @@ fn exclude_three<const K: usize>(
     exclude_each(instance, state, dim, u, Rel::After, after)
 }
 
-/// COMPOSE in both orders of the boxes of an edge, whose mask is given, if no mask is empty. What is
-/// to be excluded is found for both orders before anything is, so the rows of the two are read once.
+/// COMPOSE in both orders of the boxes of an edge, whose mask is given, if no mask is empty. What
+/// is to be excluded is found for both orders before anything is, so the rows of the two are read
+/// once.
 #[inline(always)]
 pub(crate) fn spread_composed<const K: usize>(
     instance: &Instance,

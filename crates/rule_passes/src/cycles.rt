@@ -103,9 +103,9 @@ fn has_open_pair<const K: usize>(
     false
 }
 
-/// Whether CYCLE may exclude something with the first and the third box given, in one of the orders:
-/// two boxes that aren't joined are joined with both. At 97 of 100 edges and more, those that are
-/// joined with both are joined already (three texts of 14 to 50 boxes).
+/// Whether CYCLE may exclude something with the first and the third box given, in one of the
+/// orders: two boxes that aren't joined are joined with both. At 97 of 100 edges and more, those
+/// that are joined with both are joined already (three texts of 14 to 50 boxes).
 #[inline(always)]
 pub(crate) fn may_chord<const K: usize>(
     instance: &Instance,

@@ -1,5 +1,5 @@
-//! All that follows from a changed edge: the instances of the rules that read its mask, in both orders
-//! of its boxes.
+//! All that follows from a changed edge: the instances of the rules that read its mask, in both
+//! orders of its boxes.
 //!
 //! Mostly nothing follows. So the tests come first, in a copy for each mask, and what is to be done
 //! is in functions that aren't inlined.
@@ -277,8 +277,8 @@ fn but(rel: Rel) -> Mask
     Mask::all().without(rel)
 }
 
-// The same where `first`, one of the two boxes, is surely before the other one, `second`: at first a
-// chain through both may be too long.
+// The same where `first`, one of the two boxes, is surely before the other one, `second`: at first
+// a chain through both may be too long.
 #[inline(always)]
 fn propagate_order<const K: usize>(
     instance: &Instance,
@@ -312,8 +312,8 @@ fn propagate_order<const K: usize>(
     propagate_mask(instance, state, all, dim, u, v, left, stale, most)
 }
 
-/// All instances that read the mask of an edge, which is given, up to those that add the same. Where
-/// one box is surely before the other, a chain through both that is too long ends it at once.
+/// All instances that read the mask of an edge, which is given, up to those that add the same.
+/// Where one box is surely before the other, a chain through both that is too long ends it at once.
 ///
 /// In each copy the mask is a constant, so what it rules out falls away when the copy is compiled.
 /// Looking through a change, neither the full mask nor the empty one comes.

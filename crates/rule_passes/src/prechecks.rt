@@ -1,8 +1,8 @@
-//! Whether anything follows from a changed edge: the tests of the instances that read its mask, over
-//! a state that stays.
+//! Whether anything follows from a changed edge: the tests of the instances that read its mask,
+//! over a state that stays.
 //!
-//! Mostly nothing follows. Then the rows of the two boxes are read once for all tests, since nothing
-//! is written between them.
+//! Mostly nothing follows. Then the rows of the two boxes are read once for all tests, since
+//! nothing is written between them.
 ghost use Rattle.std.specs.Prelude.{◌≡◌, ◌<◌, ◌⊎◌, ℕ, false, not, nat_lt};
 ghost use Rattle.packing_terms.specs.declared.Rel.{Rel as PlainRel};
 ghost use Rattle.packing_terms.specs.declared.Rel.TheVariants.{Overlap, Before, After};
@@ -204,8 +204,8 @@ fn may_spread_crossed<const K: usize>(
     may_order_crossed(instance, state, all, dim, p, q)
 }
 
-/// Whether something follows for joined, for ordered or for not before, of two boxes in both orders,
-/// without APART. The mask is given, and the flipped one.
+/// Whether something follows for joined, for ordered or for not before, of two boxes in both
+/// orders, without APART. The mask is given, and the flipped one.
 #[inline(always)]
 pub(crate) fn may_spread_both<const K: usize>(
     instance: &Instance,

@@ -114,11 +114,12 @@ fn triples_among<const K: usize>(
     exclude_both(instance, state, dim, u, Rel::Before, Rel::After, long)
 }
 
-/// Whether TRIPLE may exclude something with two boxes, in one of their orders: there are thirds that
-/// are apart from the one that comes second, and one is long enough. None is longer than `most`.
+/// Whether TRIPLE may exclude something with two boxes, in one of their orders: there are thirds
+/// that are apart from the one that comes second, and one is long enough. None is longer than
+/// `most`.
 ///
-/// The thirds are asked one by one, here where the state stays: at 37 to 92 of 100 edges with thirds
-/// that `most` doesn't rule out, none is long enough (three texts of 14 to 50 boxes).
+/// The thirds are asked one by one, here where the state stays: at 37 to 92 of 100 edges with
+/// thirds that `most` doesn't rule out, none is long enough (three texts of 14 to 50 boxes).
 #[inline(always)]
 pub(crate) fn may_triple<const K: usize>(
     instance: &Instance,

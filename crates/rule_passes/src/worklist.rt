@@ -19,8 +19,8 @@ use box_instances::Instance;
 use early_chains::ChainEstimates;
 use edge_state::{BitRow, EdgeState, Exclusion, Mark, Mask, Rel};
 
-// The position of the list after a change. Beside it the relations whose exclusion is stale: all but
-// the one that the change excludes.
+// The position of the list after a change. Beside it the relations whose exclusion is stale: all
+// but the one that the change excludes.
 #[inline(always)]
 fn behind(state: &EdgeState, mark: Mark, change: Exclusion) -> (Mark, Mask)
     requires { IsChangeAfter state.now.trail mark change (mark + 1) }
@@ -39,8 +39,8 @@ fn orders(state: &EdgeState, change: Exclusion, left: Mask) -> bool
     !left.has(Rel::Overlap) & !(left.has(Rel::Before) & left.has(Rel::After))
 }
 
-// The dimensions in which CHAIN is to be looked at, with that of a change that orders its boxes: by a
-// choice of two rows, since a branch would often be predicted wrongly.
+// The dimensions in which CHAIN is to be looked at, with that of a change that orders its boxes: by
+// a choice of two rows, since a branch would often be predicted wrongly.
 #[inline(always)]
 fn with_ordered(state: &EdgeState, dirty: BitRow<1>, change: Exclusion, left: Mask) -> BitRow<1>
     requires dim { change.dim < 4 }
