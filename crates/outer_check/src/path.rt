@@ -1,11 +1,11 @@
 //! The splits on the path to the current node of an outer tree.
-ghost use Rattle.std.specs.Prelude.{◌≡◌, ◌≤◌, ◌<◌, ◌&&◌, ◌==◌, ◌∷◌, ◌++◌, [], suc, false, length, if◌then◌else◌, IfOk, MatchOption, vec_capacity};
+ghost use Rattle.std.specs.Prelude.{◌≡◌, ◌≤◌, ◌<◌, ◌&&◌, ◌||◌, ◌==◌, ◌+◌, ◌∷◌, ◌++◌, [], false, ℕ, length, slice_index_or, if◌then◌else◌, IfOk, MatchOption, vec_capacity};
 ghost use Rattle.std.specs.List.{list_any};
 ghost use Rattle.packing_terms.specs.Limits.{IsBoxCount, max_boxes};
 ghost use Rattle.outer_check.specs.declared.path.Frame.{Frame as PlainFrame};
 ghost use Rattle.outer_check.specs.Frames.{ArePath, first_split, is_decided, is_put, is_some_put, boxes_put, used_behind, next_frames, is_some_frame, IsNewest};
 
-use box_instances::NoMemory;
+use box_instances::{MAX_BOXES, NoMemory};
 use std::alloc::Global;
 use std::marker::Model;
 
@@ -62,6 +62,30 @@ fn has_put(frames: &[Frame], box_no: u32, child: u32) -> bool
         }
     }
     false
+}
+
+// Marks the box of this number of the text where the test holds, if there is one.
+fn mark_where(marks: &mut [bool; MAX_BOXES], box_no: u32, test: bool)
+    ensures { (v : ℕ) → v < max_boxes → slice_index_or marks.new v false
+        ≡ slice_index_or marks.old v false || ((box_no == v + 1) && test) }
+{
+    let number = box_no as usize;
+    if test & (1 <= number) & (number <= MAX_BOXES) {
+        marks[number - 1] = true;
+    }
+}
+
+// Which boxes, counted from 0, the splits put into their child of this number: in one pass over the
+// splits. Asking them for each box was a third of the instructions of checking 20 boxes in bins.
+fn boxes_in(frames: &[Frame], child: u32) -> [bool; MAX_BOXES]
+    ensures { (v : ℕ) → v < max_boxes → slice_index_or result v false
+        ≡ list_any (λ (f : PlainFrame). (f.box_no == v + 1) && (f.child == child)) frames.now }
+{
+    let mut put = [false; MAX_BOXES];
+    for frame in frames {
+        mark_where(&mut put, frame.box_no, frame.child == child);
+    }
+    put
 }
 
 // Adds the number where the test holds.
@@ -218,9 +242,9 @@ impl Path {
         ensures room { vec_capacity keep.new ≡ vec_capacity keep.old }
     {
         keep.clear();
+        let put = boxes_in(self.frames.as_slice(), child);
         for v in 0..self.boxes() {
-            let put = self.is_put(child, v);
-            push_where(keep, v, put);
+            push_where(keep, v, put[v as usize]);
         }
     }
 }
