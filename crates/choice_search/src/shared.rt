@@ -16,10 +16,17 @@ use std::sync::Wait;
 use std::thread::Threads;
 use work_share::{Gate, Node, Settings, Tree, solve_shared};
 
-// One worker explores a tree up to this many branchings first. Most levels end within it, in less
-// time than several workers take to start, and what it decided they find in the sets that all
-// share. Without it, and with one lock for these sets, four workers took 1.3 to 1.7 times as long as
-// one for knapsacks of 36 to 100 boxes with proposals and budgets of 10,000 and 50,000.
+// One worker explores a tree alone to the end if the budget of its level is at most this many
+// branchings. Under so small a budget several workers decide many sets again. With 4 workers and a
+// budget of 50,000 for a level, `knapsack` took 1.27 (36 boxes) and 1.20 (48 boxes) of one worker's
+// wall time, and with 130,000 it took 0.61 and 0.76.
+const SOLE_WORKER_BUDGET: u64 = 65_536;
+
+// Under a larger budget one worker explores a tree up to this many branchings first. Most levels
+// end within it, in less time than several workers take to start, and what it decided they find in
+// the sets that all share. Without it, and with one lock for these sets, four workers took 1.3 to
+// 1.7 times as long as one for knapsacks of 36 to 100 boxes with proposals and budgets of 10,000
+// and 50,000.
 const ALONE_BUDGET: u64 = 16_384;
 
 // The choice tree, with the search from whose pool each task takes one. It is seen as that tree.
@@ -96,10 +103,12 @@ impl<'a> ChoiceTree<'a> {
     /// What the tree gives under the budget of the settings, by as many workers as these say: what
     /// `solve_shared` answers of it, for every number of workers and every gate.
     ///
-    /// One worker decides sets with `search`, as `explore_with` does. With more, each task takes a
-    /// search from the pool of `search` and gives it back. These searches share what they decide,
-    /// so a later task, also one of the trees of other values, finds the sets of earlier ones. A
-    /// tree of at most 16,384 branchings is explored by the calling thread alone.
+    /// One worker decides sets with `search`, as `explore_with` does. Under a budget of at most
+    /// 65,536 branchings the calling thread alone does so, for every number of workers. Under a
+    /// larger one, each task of several workers takes a search from the pool of `search` and gives
+    /// it back. These searches share what they decide, so a later task, also one of the trees of
+    /// other values, finds the sets of earlier ones. A tree of at most 16,384 branchings is
+    /// explored by the calling thread alone.
     pub fn solve_with<R: Threads + Wait + Sync, G: Gate + Sync>(
         &self,
         rt: &R,
@@ -116,7 +125,7 @@ impl<'a> ChoiceTree<'a> {
         ensures outcome { IfOk result
             (λ r. plain_outcome r ≡ under_budget settings.now.budget (outcome (shape self.now))) }
     {
-        if settings.workers <= 1 {
+        if settings.workers <= 1 || settings.budget <= SOLE_WORKER_BUDGET {
             return self.explore_with(alloc, search, settings.budget);
         }
         let pooled = PooledTree { tree: self, search };
