@@ -21,9 +21,10 @@ use std::sync::{Mutex, MutexGuard};
 const MAX_LOCK_TRIES: u32 = 10_000;
 
 // Decided sets in shards, each behind a lock of its own: with one lock for all of them, four
-// workers spent a quarter of their processor time waiting for it. Nothing is known of what another worker left
-// there, so a shard is tested for its instance at each call. No call blocks: while another worker
-// stays in the shard, a set counts as not decided, and what is found of one isn't kept.
+// workers spent a quarter of their processor time waiting for it. Nothing is known of what another
+// worker left there, so a shard is tested for its instance at each call. No call blocks: while
+// another worker stays in the shard, a set counts as not decided, and what is found of one isn't
+// kept.
 #[derive(Drop)]
 pub(crate) struct SharedSets<'a> {
     shards: Vec<Mutex<KnownSets<'a>>>,
