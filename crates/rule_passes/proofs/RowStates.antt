@@ -1,6 +1,6 @@
 -- A state after a relation was excluded at a box and each box of a row.
 use Rattle.std.proofs.Common.{◌≡◌, ℕ, ◌<◌, ◌⊎◌, inl, inr, refl, sym, ap, ◌∙◌, Bool, true, false, not, ◌&&◌, ◌||◌, eqb, ltb, List}
-use Rattle.std.proofs.lemmas.Bool.{true≢false, and_parts, and_cases, or_parts, or_cases, ltb-true, cases_Bool}
+use Rattle.std.proofs.lemmas.Bool.{true≢false, and_parts, and_cases, ltb-true, cases_Bool}
 use Rattle.packing_terms.specs.declared.Rel.{Rel}
 use Rattle.packing_terms.specs.declared.Rel.TheVariants.{Overlap, Before, After}
 use Rattle.packing_terms.specs.declared.Exclusion.{Exclusion}
@@ -9,7 +9,7 @@ use Rattle.packing_terms.specs.Exclusions.{Exclusions, excludes, IsEdge}
 use Rattle.packing_terms.specs.Rules.{Follows}
 use Rattle.edge_state.specs.Edges.{PlainEdges, is_other_box}
 use Rattle.edge_state.specs.RowExclusions.{with_row, HasEmptyAt, taken_at}
-use Rattle.edge_state.proofs.Kept.{row_shut, row_open}
+use Rattle.edge_state.proofs.Kept.{row_shut}
 use Rattle.edge_state.proofs.RowDerived.{row_extends}
 use Rattle.edge_state.proofs.RowExclusions.{row_keeps, row_takes}
 use Rattle.edge_state.proofs.RowSteps.{edge_of, box_apart}
@@ -100,38 +100,6 @@ either_other n u v false b x y e ha hb he h = (and_parts _ _ (sym hb ∙ (sym he
 pub not_true : (x : Bool) → not x ≡ true → x ≡ false
 not_true true h = absurd (true≢false (sym h))
 not_true false h = refl
-
--- a box that none of three rows has is lost, and another one has something left
-pub lost_each : (n i u v : ℕ) (X : Exclusions) (o b a any : Bool) → v < n → (u ≡ v → ⊥)
-    → o ≡ is_other_box n u v && not (X i u v Overlap) → b ≡ is_other_box n u v && not (X i u v Before)
-    → a ≡ is_other_box n u v && not (X i u v After) → any ≡ (o || b) || a → any ≡ false
-    → (r : Rel) → X i u v r ≡ true
-lost_each n i u v X o b a any small ne eo eb ea e off = each
-  where
-    outer : ((o || b) ≡ false) × (a ≡ false)
-    outer = or_parts _ _ (sym e ∙ off)
-
-    inner : (o ≡ false) × (b ≡ false)
-    inner = or_parts _ _ outer.0
-
-    each : (r : Rel) → X i u v r ≡ true
-    each Overlap = row_shut n i u v X Overlap o small ne eo inner.0
-    each Before = row_shut n i u v X Before b small ne eb inner.1
-    each After = row_shut n i u v X After a small ne ea outer.1
-
-pub left_some : (n i u v : ℕ) (X : Exclusions) (o b a any : Bool)
-    → o ≡ is_other_box n u v && not (X i u v Overlap) → b ≡ is_other_box n u v && not (X i u v Before)
-    → a ≡ is_other_box n u v && not (X i u v After) → any ≡ (o || b) || a → any ≡ true
-    → (r : Rel) × (X i u v r ≡ false)
-left_some n i u v X o b a any eo eb ea e on = outer (or_cases _ _ (sym e ∙ on))
-  where
-    inner : (o ≡ true) ⊎ (b ≡ true) → (r : Rel) × (X i u v r ≡ false)
-    inner (inl h) = (Overlap, row_open n i u v X Overlap o eo h)
-    inner (inr h) = (Before, row_open n i u v X Before b eb h)
-
-    outer : ((o || b) ≡ true) ⊎ (a ≡ true) → (r : Rel) × (X i u v r ≡ false)
-    outer (inl h) = inner (or_cases _ _ h)
-    outer (inr h) = (After, row_open n i u v X After a ea h)
 
 -- what is in one of two rows and not in both isn't in the other
 pub off_with : (a b : Bool) → a ≡ true → (a && b) ≡ false → b ≡ false

@@ -277,8 +277,9 @@ fn but(rel: Rel) -> Mask
     Mask::all().without(rel)
 }
 
-// The same where `first`, one of the two boxes, is surely before the other one, `second`: at first
-// a chain through both may be too long.
+// Like `propagate_mask`, where `first`, one of `u` and `v`, is surely before `second`, the other
+// one. Before all rules it looks for an over-long chain through both. If it finds one, a mask is
+// emptied and nothing else is applied: most conflicts are such chains, and CHAIN comes last.
 #[inline(always)]
 fn propagate_order<const K: usize>(
     instance: &Instance,
