@@ -4,7 +4,7 @@ use Rattle.packing_terms.specs.Exclusions.{excludes}
 use Rattle.edge_state.specs.BitRows.{row_has}
 use Rattle.packing_terms.specs.declared.Direction.TheVariants.{Forwards}
 use Rattle.packing_terms.specs.Runs.{Leads}
-use Rattle.orientation_rules.proofs.kept.boxes_ahead.Given as goal
+use Rattle.orientation_rules.proofs.kept_rows.boxes_ahead.Given as goal
 
 abbrev pub invariant-loop-v : goal.invariant-loop-v
 invariant-loop-v g l = record {

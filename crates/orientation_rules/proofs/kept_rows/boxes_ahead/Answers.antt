@@ -6,7 +6,7 @@ use Rattle.edge_state.specs.BitRows.{row_has}
 use Rattle.packing_terms.specs.declared.Direction.TheVariants.{Forwards}
 use Rattle.packing_terms.specs.Runs.{Leads}
 use Rattle.orientation_rules.proofs.KeptRuns.{below_next, row_of}
-use Rattle.orientation_rules.proofs.kept.boxes_ahead.Goals as goal
+use Rattle.orientation_rules.proofs.kept_rows.boxes_ahead.Goals as goal
 
 pub loop-v-preserved : goal.loop-v-preserved
 loop-v-preserved g c =

@@ -8,7 +8,7 @@ use Rattle.packing_terms.specs.declared.Direction.TheVariants.{Forwards}
 use Rattle.packing_terms.specs.Runs.{Leads}
 use Rattle.orientation_rules.proofs.HandedOn.{left_part, off_left}
 use Rattle.orientation_rules.proofs.KeptRuns.{row_set, row_of}
-use Rattle.orientation_rules.proofs.kept.set_rows.Goals as goal
+use Rattle.orientation_rules.proofs.kept_rows.set_rows.Goals as goal
 
 pub loop-v-smaller : goal.loop-v-smaller
 loop-v-smaller g c =

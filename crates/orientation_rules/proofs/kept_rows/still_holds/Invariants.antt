@@ -5,7 +5,7 @@ use Rattle.edge_state.specs.BitRows.{row_has}
 use Rattle.packing_terms.specs.declared.Direction.TheVariants.{Forwards}
 use Rattle.packing_terms.specs.Runs.{Leads}
 use Rattle.orientation_rules.specs.CachedChainWeights.{GoesOn}
-use Rattle.orientation_rules.proofs.kept.still_holds.Given as goal
+use Rattle.orientation_rules.proofs.kept_rows.still_holds.Given as goal
 
 abbrev pub invariant-loop-v : goal.invariant-loop-v
 invariant-loop-v g l = record {

@@ -7,7 +7,7 @@ use Rattle.packing_terms.specs.declared.Direction.TheVariants.{Forwards}
 use Rattle.packing_terms.specs.Runs.{Leads}
 use Rattle.orientation_rules.specs.CachedChainWeights.{GoesOn}
 use Rattle.orientation_rules.proofs.KeptRuns.{below_next, row_of, get_any}
-use Rattle.orientation_rules.proofs.kept.still_holds.Goals as goal
+use Rattle.orientation_rules.proofs.kept_rows.still_holds.Goals as goal
 
 pub loop-v-preserved : goal.loop-v-preserved
 loop-v-preserved g c =
