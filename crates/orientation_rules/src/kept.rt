@@ -1,5 +1,5 @@
 //! Weights of heaviest chains that are kept, and made those of a later state.
-ghost use Rattle.std.specs.Prelude.{◌≡◌, ◌+◌, ◌*◌, ◌<◌, ◌≤◌, ◌&&◌, ℕ, nat_lt, true, length, slice_index, vec_capacity, IfOk};
+ghost use Rattle.std.specs.Prelude.{◌≡◌, ◌+◌, ◌<◌, ◌≤◌, ◌&&◌, ℕ, nat_lt, true, length, slice_index, vec_capacity, IfOk};
 ghost use Rattle.packing_terms.specs.Packing.{box_count};
 ghost use Rattle.edge_state.specs.BitRows.{IsRowWidth, row_has, HoldsBoxes};
 ghost use Rattle.packing_terms.specs.declared.Direction.TheVariants.{Forwards, Backwards};
@@ -260,9 +260,8 @@ impl<const K: usize> CachedChainWeights<K> {
     /// are known to fit beside `v` from then on, until a weight of the pair rises.
     #[inline]
     pub fn find_over_long_to(&mut self, v: u32, row: BitRow<K>) -> BitRow<K>
-        requires width { IsRowWidth K }
+        requires words { HoldsBoxes K (length self.old.head) }
         requires v { v < length self.old.head }
-        requires number { v < 64 * K }
         requires within { (u : ℕ) → row_has row u ≡ true → u < length self.old.head }
         ensures same { self.new ≡ self.old }
         ensures over { (u : ℕ) → row_has result u ≡ row_has row.entry u

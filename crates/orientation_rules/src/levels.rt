@@ -1,5 +1,5 @@
 //! Kept weights of one dimension, level by level: those of the nodes above in a search.
-ghost use Rattle.std.specs.Prelude.{◌≡◌, ◌+◌, ◌<◌, ◌≤◌, ◌*◌, ◌&&◌, ℕ, nat_lt, true, false, length, slice_index, IfOk, IfSome};
+ghost use Rattle.std.specs.Prelude.{◌≡◌, ◌+◌, ◌<◌, ◌≤◌, ◌&&◌, ℕ, nat_lt, true, false, length, slice_index, IfOk, IfSome};
 ghost use Rattle.packing_terms.specs.Packing.{dims, box_count, container_side};
 ghost use Rattle.packing_terms.specs.Exclusions.{excludes, IsSurelyBefore};
 ghost use Rattle.edge_state.specs.BitRows.{IsRowWidth, row_has, HoldsBoxes};
@@ -355,9 +355,8 @@ impl<const K: usize> ChainWeightCache<K> {
     /// The boxes of `row` that can't be before `v`, by the same weights.
     #[inline]
     pub fn find_over_long_to(&mut self, v: u32, row: BitRow<K>) -> BitRow<K>
-        requires width { IsRowWidth K }
+        requires words { HoldsBoxes K self.old.boxes }
         requires v { v < self.old.boxes }
-        requires number { v < 64 * K }
         requires within { (u : ℕ) → row_has row u ≡ true → u < self.old.boxes }
         ensures same { self.new ≡ self.old }
         ensures over { (u : ℕ) → row_has result u ≡ row_has row.entry u
