@@ -15,7 +15,7 @@ use edge_state::{BitRow, EdgeState, Mark};
 use std::alloc::Global;
 use std::marker::Model;
 
-/// The boxes whose weights rose: those of the chains that end in each, and that start there.
+/// Boxes whose weights may have risen: those of the chains that end in each, and that start there.
 #[derive(Clone, Copy)]
 pub struct Risen<const K: usize> {
     pub heads: BitRow<K>,

@@ -93,8 +93,8 @@ impl<const K: usize> ChainWeightCache<K> {
     }
 
     /// Begins a closing of a state that was closed at this position of its list. Its weights are
-    /// made from those that are kept. Those of a closing that ended at a later position were of
-    /// another branch of the search, so they are given up.
+    /// made from those that are kept. Levels on top whose closings ended at a later position are
+    /// given up: mostly they are of another branch of the search. No claim rests on that.
     pub fn begin(&mut self, closed: Mark)
         ensures { self.new ≡ self.old }
     {
