@@ -13,5 +13,5 @@ pub fit_outside_all : (instance : PlainInstance) (s : PlainEdges) (i : ℕ) (k :
 fit_outside_all instance s i k firsts seconds all none = record {
   firsts_within = λ u on. ltb-true u (box_count instance) (sym (all u) ∙ on);
   seconds_within = λ v on. absurd (true≢false (sym on ∙ none v));
-  fit = λ u v hu hv ne off _ _. absurd (true≢false (sym (lt-ltb u (box_count instance) hu) ∙ (sym (all u) ∙ off)));
+  fit = λ u v hu hv off _ _ _. absurd (true≢false (sym (lt-ltb u (box_count instance) hu) ∙ (sym (all u) ∙ off)));
 }

@@ -77,19 +77,23 @@ pub record AreHeaviestWeights (instance : PlainInstance) (s : PlainEdges) (i : �
   pub heads : (v : ℕ) → v < box_count instance → IsHeaviest instance s i Backwards v (slice_index k.head v)
   pub tails : (v : ℕ) → v < box_count instance → IsHeaviest instance s i Forwards v (slice_index k.tail v)
 
--- each box fits beside each other that it may be before: they are together within the limit
+-- if u and v differ and u may be before v, then the weight of the chains that end in u and that of
+-- those that start in v are together within the limit
+abbrev pub FitsBefore : PlainEdges → ℕ → PlainWeights → ℕ → ℕ → Type 0
+FitsBefore s i k u v = (u ≡ v → ⊥) → excludes s.trail i u v Before ≡ false
+    → slice_index k.head u + slice_index k.tail v ≤ k.limit
+
+-- each box fits beside each other that it may be before
 abbrev pub AllFit : PlainInstance → PlainEdges → ℕ → PlainWeights → Type 0
-AllFit instance s i k = (u v : ℕ) → u < box_count instance → v < box_count instance → (u ≡ v → ⊥)
-    → excludes s.trail i u v Before ≡ false → slice_index k.head u + slice_index k.tail v ≤ k.limit
+AllFit instance s i k = (u v : ℕ) → u < box_count instance → v < box_count instance → FitsBefore s i k u v
 
 -- the same but for the first boxes of one row and the second boxes of another
 pub record FitOutside (instance : PlainInstance) (s : PlainEdges) (i : ℕ) (k : PlainWeights) (firsts seconds : List ℕ) :
     Type 0 where
   pub firsts_within : (u : ℕ) → row_has firsts u ≡ true → u < box_count instance
   pub seconds_within : (v : ℕ) → row_has seconds v ≡ true → v < box_count instance
-  pub fit : (u v : ℕ) → u < box_count instance → v < box_count instance → (u ≡ v → ⊥)
-      → row_has firsts u ≡ false → row_has seconds v ≡ false → excludes s.trail i u v Before ≡ false
-      → slice_index k.head u + slice_index k.tail v ≤ k.limit
+  pub fit : (u v : ℕ) → u < box_count instance → v < box_count instance → row_has firsts u ≡ false
+      → row_has seconds v ≡ false → FitsBefore s i k u v
 
 -- all weights are what they were but those of the chains that end in a box of one row, and of those
 -- that start in a box of another

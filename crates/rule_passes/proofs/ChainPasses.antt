@@ -37,7 +37,7 @@ module _ (instance : PlainInstance) (i : ℕ) (k : PlainWeights) (firsts seconds
           → IsTrue (excludes s.trail i u v Before)
       decide ne wide (inl on) = on
       decide ne wide (inr off) =
-          let fit = outside.fit u v hu hv ne first second off in absurd (omega (arith, fit, wide, limit))
+          let fit = outside.fit u v hu hv first second ne off in absurd (omega (arith, fit, wide, limit))
 
   pub chains_passed : (a b c : PlainEdges) (lost : Bool) → FitOutside instance a i k firsts seconds
       → IsPass instance a b Rows → IsPass instance b c (λ es. lost ≡ false → Columns es)
