@@ -125,3 +125,6 @@ led_settled n R w ks v row one_way hv members others x small = go (cases_Bool (r
     go : (row x ≡ true) ⊎ (row x ≡ false) → HasNoHeavierRun R w ks v x
     go (inl on) = members x on
     go (inr off) = unled n R w ks v x one_way hv small (λ ne lead. others x small ne off lead)
+
+pub least_trans : (a b c : ℕ) → a ≤ b → b ≤ c → a ≤ c
+least_trans a b c e f = omega (arith, e, f)

@@ -4,7 +4,9 @@ pub mod ChainLaws
 pub mod LeadRows
 pub mod TakenOut
 pub mod Finished
-pub mod HandedOn
-pub mod KeptRuns
+pub mod Ordering
+pub mod OrderedPairs
+pub mod FollowedChanges
+pub mod KnownWeights
 mod OverLong
-mod Outside
+pub mod HandedOn

@@ -4,7 +4,7 @@ mod Guards
 mod Quiet
 mod RowRules
 mod RowStates
-pub mod Levels
 mod Members
 mod ChainRows
 mod ChainPasses
+mod Followed

@@ -1,12 +1,25 @@
 -- Passes over the members of a row, one after another.
-use Rattle.std.proofs.Common.{◌≡◌, ℕ, ◌⊎◌, inl, inr, sym, subst, ◌∙◌, Bool, true, false, not, eqb, ◌&&◌, List}
-use Rattle.std.proofs.lemmas.Bool.{true≢false, cases_eq}
+use Rattle.std.proofs.Common.{◌≡◌, ℕ, ◌⊎◌, inl, inr, refl, sym, subst, ◌∙◌, Bool, true, false, not, eqb, ◌&&◌, List}
+use Rattle.std.proofs.lemmas.Bool.{true≢false, cases_Bool, cases_eq, eqb-true}
 use Rattle.packing_terms.specs.declared.Exclusion.{Exclusion}
 use Rattle.packing_terms.specs.Packing.{PlainInstance}
 use Rattle.edge_state.specs.Edges.{PlainEdges}
 use Rattle.edge_state.specs.Passes.{IsPass}
 use Rattle.edge_state.proofs.Passes.{IsKept, pass_as, pass_none, pass_then}
-use Rattle.orientation_rules.proofs.HandedOn.{off_left}
+
+-- a member that isn't left was none before, unless it was taken out
+pub off_left : (before left : ℕ → Bool) (x : ℕ) → ((y : ℕ) → left y ≡ before y && not (eqb y x)) → (y : ℕ) → (y ≡ x → ⊥)
+    → left y ≡ false → before y ≡ false
+off_left before left x less y ne off = go (before y) (eqb y x) (sym (less y) ∙ off) (apart (cases_Bool (eqb y x)))
+  where
+    apart : (eqb y x ≡ true) ⊎ (eqb y x ≡ false) → eqb y x ≡ false
+    apart (inl is) = absurd (ne (eqb-true y x is))
+    apart (inr is) = is
+
+    go : (a b : Bool) → (a && not b) ≡ false → b ≡ false → a ≡ false
+    go false b h e = refl
+    go true false h e = absurd (true≢false h)
+    go true true h e = absurd (true≢false e)
 
 -- none is done at first
 pub members_start : (instance : PlainInstance) (s : PlainEdges) (row : ℕ → Bool) (P : ℕ → List Exclusion → Type 0)

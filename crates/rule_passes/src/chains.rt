@@ -1,6 +1,7 @@
 //! CHAIN in one dimension, by rows and columns, with the weights of heaviest chains.
-ghost use Rattle.std.specs.Prelude.{◌≡◌, ◌<◌, ℕ, nat_lt, true, false};
-ghost use Rattle.packing_terms.specs.Packing.{dims, box_count, container_side};
+ghost use Rattle.std.specs.Prelude.{◌≡◌, ◌==◌, ◌<◌, ◌&&◌, ℕ, not, nat_lt, true, false, length};
+ghost use Rattle.packing_terms.specs.Packing.{dims, box_count};
+ghost use Rattle.packing_terms.specs.declared.Direction.TheVariants.{Forwards, Backwards};
 ghost use Rattle.packing_terms.specs.Exclusions.{excludes, IsSurelyBefore};
 ghost use Rattle.packing_terms.specs.Places.{HasNoEmptyMask};
 ghost use Rattle.packing_terms.specs.Runs.{AreHeads, AreTails, IsTransitive};
@@ -8,10 +9,12 @@ ghost use Rattle.edge_state.specs.BitRows.{HoldsBoxes, row_has};
 ghost use Rattle.edge_state.specs.States.{IsSized, HasEmptyMask};
 ghost use Rattle.edge_state.specs.Work.{IsChainIn, HasApplied};
 ghost use Rattle.edge_state.specs.Passes.{IsPass, IsChainChecked};
+ghost use Rattle.edge_state.specs.ChainWeights.{weights_in};
+ghost use Rattle.orientation_rules.specs.Pending.{AreFollowed, AreHeld};
 
 use box_instances::Instance;
-use edge_state::{BitRow, EdgeState, Rel};
-use orientation_rules::ChainWeightCache;
+use edge_state::{BitRow, ChainWeights, EdgeState, Rel};
+use orientation_rules::{PendingChains, find_over_long, find_over_long_to};
 
 // CHAIN at box `u` and all boxes that it may be before. Returns whether that empties a mask. It
 // excludes the whole row at once, so the weights have to be those of the state before the row
@@ -22,25 +25,25 @@ fn shut_from<const K: usize>(
     state: &mut EdgeState,
     dim: u32,
     u: u32,
-    kept: &mut ChainWeightCache<K>,
+    weights: &ChainWeights,
 ) -> bool
     requires words { HoldsBoxes K (box_count instance.now) }
     requires sizes { IsSized instance.now state.old dim }
     requires u { u < box_count instance.now }
-    requires room { kept.old.boxes ≡ box_count instance.now }
-    requires limit { kept.old.weights.limit ≡ container_side instance.now dim }
-    requires heads { AreHeads instance.now
-        (excludes state.old.trail) dim kept.old.weights.head }
-    requires tails { AreTails instance.now
-        (excludes state.old.trail) dim kept.old.weights.tail }
-    ensures kept { kept.new ≡ kept.old }
+    requires heads { AreHeads instance.now (excludes state.old.trail) dim
+        (weights_in weights.now.numbers Backwards dim) }
+    requires tails { AreTails instance.now (excludes state.old.trail) dim
+        (weights_in weights.now.numbers Forwards dim) }
     ensures pass { IsPass instance.now state.old state.new (λ es. (v : ℕ)
         → v < box_count instance.now
-        → IsChainChecked instance.now dim kept.old.weights.head kept.old.weights.tail u v es) }
+        → IsChainChecked instance.now dim (weights_in weights.now.numbers Backwards dim)
+        (weights_in weights.now.numbers Forwards dim) u v es) }
     ensures empty { result ≡ true → HasEmptyMask instance.now (excludes state.new.trail) }
 {
+    // For the proof alone: states the limits of the state.
+    let _sizes = state.dims();
     let before = state.row_in::<K>(dim, u, Rel::Before);
-    let over_long = kept.find_over_long(u, before);
+    let over_long = find_over_long(instance, weights, dim, u, before);
     if over_long.is_empty() {
         return false;
     }
@@ -54,25 +57,25 @@ fn shut_to<const K: usize>(
     state: &mut EdgeState,
     dim: u32,
     v: u32,
-    kept: &mut ChainWeightCache<K>,
+    weights: &ChainWeights,
 ) -> bool
     requires words { HoldsBoxes K (box_count instance.now) }
     requires sizes { IsSized instance.now state.old dim }
     requires v { v < box_count instance.now }
-    requires room { kept.old.boxes ≡ box_count instance.now }
-    requires limit { kept.old.weights.limit ≡ container_side instance.now dim }
-    requires heads { AreHeads instance.now
-        (excludes state.old.trail) dim kept.old.weights.head }
-    requires tails { AreTails instance.now
-        (excludes state.old.trail) dim kept.old.weights.tail }
-    ensures kept { kept.new ≡ kept.old }
+    requires heads { AreHeads instance.now (excludes state.old.trail) dim
+        (weights_in weights.now.numbers Backwards dim) }
+    requires tails { AreTails instance.now (excludes state.old.trail) dim
+        (weights_in weights.now.numbers Forwards dim) }
     ensures pass { IsPass instance.now state.old state.new (λ es. (u : ℕ)
         → u < box_count instance.now
-        → IsChainChecked instance.now dim kept.old.weights.head kept.old.weights.tail u v es) }
+        → IsChainChecked instance.now dim (weights_in weights.now.numbers Backwards dim)
+        (weights_in weights.now.numbers Forwards dim) u v es) }
     ensures empty { result ≡ true → HasEmptyMask instance.now (excludes state.new.trail) }
 {
+    // For the proof alone: states the limits of the state.
+    let _sizes = state.dims();
     let after = state.row_in::<K>(dim, v, Rel::After);
-    let over_long = kept.find_over_long_to(v, after);
+    let over_long = find_over_long_to(instance, weights, dim, v, after);
     if over_long.is_empty() {
         return false;
     }
@@ -87,27 +90,25 @@ fn shut_rows<const K: usize>(
     state: &mut EdgeState,
     dim: u32,
     row: BitRow<K>,
-    kept: &mut ChainWeightCache<K>,
+    weights: &ChainWeights,
 ) -> bool
     requires words { HoldsBoxes K (box_count instance.now) }
     requires sizes { IsSized instance.now state.old dim }
     requires within { (u : ℕ) → row_has row u ≡ true → u < box_count instance.now }
-    requires room { kept.old.boxes ≡ box_count instance.now }
-    requires limit { kept.old.weights.limit ≡ container_side instance.now dim }
-    requires heads { AreHeads instance.now
-        (excludes state.old.trail) dim kept.old.weights.head }
-    requires tails { AreTails instance.now
-        (excludes state.old.trail) dim kept.old.weights.tail }
-    ensures kept { kept.new ≡ kept.old }
+    requires heads { AreHeads instance.now (excludes state.old.trail) dim
+        (weights_in weights.now.numbers Backwards dim) }
+    requires tails { AreTails instance.now (excludes state.old.trail) dim
+        (weights_in weights.now.numbers Forwards dim) }
     ensures pass { IsPass instance.now state.old state.new (λ es. result ≡ false → (u : ℕ)
         → row_has row.entry u ≡ true → (v : ℕ) → v < box_count instance.now
-        → IsChainChecked instance.now dim kept.old.weights.head kept.old.weights.tail u v es) }
+        → IsChainChecked instance.now dim (weights_in weights.now.numbers Backwards dim)
+        (weights_in weights.now.numbers Forwards dim) u v es) }
     ensures empty { result ≡ true → HasEmptyMask instance.now (excludes state.new.trail) }
 {
     let mut rest = row;
     while let Some(u) = rest.first() {
         rest = rest.without(u);
-        if shut_from(instance, state, dim, u, kept) {
+        if shut_from::<K>(instance, state, dim, u, weights) {
             return true;
         }
     }
@@ -121,60 +122,70 @@ fn shut_columns<const K: usize>(
     state: &mut EdgeState,
     dim: u32,
     row: BitRow<K>,
-    kept: &mut ChainWeightCache<K>,
+    weights: &ChainWeights,
 ) -> bool
     requires words { HoldsBoxes K (box_count instance.now) }
     requires sizes { IsSized instance.now state.old dim }
     requires within { (v : ℕ) → row_has row v ≡ true → v < box_count instance.now }
-    requires room { kept.old.boxes ≡ box_count instance.now }
-    requires limit { kept.old.weights.limit ≡ container_side instance.now dim }
-    requires heads { AreHeads instance.now
-        (excludes state.old.trail) dim kept.old.weights.head }
-    requires tails { AreTails instance.now
-        (excludes state.old.trail) dim kept.old.weights.tail }
-    ensures kept { kept.new ≡ kept.old }
+    requires heads { AreHeads instance.now (excludes state.old.trail) dim
+        (weights_in weights.now.numbers Backwards dim) }
+    requires tails { AreTails instance.now (excludes state.old.trail) dim
+        (weights_in weights.now.numbers Forwards dim) }
     ensures pass { IsPass instance.now state.old state.new (λ es. result ≡ false → (v : ℕ)
         → row_has row.entry v ≡ true → (u : ℕ) → u < box_count instance.now
-        → IsChainChecked instance.now dim kept.old.weights.head kept.old.weights.tail u v es) }
+        → IsChainChecked instance.now dim (weights_in weights.now.numbers Backwards dim)
+        (weights_in weights.now.numbers Forwards dim) u v es) }
     ensures empty { result ≡ true → HasEmptyMask instance.now (excludes state.new.trail) }
 {
     let mut rest = row;
     while let Some(v) = rest.first() {
         rest = rest.without(v);
-        if shut_to(instance, state, dim, v, kept) {
+        if shut_to::<K>(instance, state, dim, v, weights) {
             return true;
         }
     }
     false
 }
 
-/// CHAIN in one dimension, at all pairs that aren't known to fit, with weights that are made from
-/// those that were kept and are kept then. Answers whether a mask is empty; it stops there. Surely
-/// before is transitive in this dimension, and no mask is empty at first. `all` has all boxes.
+/// CHAIN in one dimension, where two boxes became ordered, by the weights of the heaviest chains.
+/// Answers whether a mask is empty; it stops there. Surely before is transitive in this dimension,
+/// and no mask is empty at first. All changes of the list were followed. `all` has all boxes.
 ///
-/// Mostly a few weights rose since a closing with which each two boxes fit. So only the rows of
-/// boxes whose heads rose and the columns of boxes whose tails rose are looked at.
+/// Mostly a few weights rose since each two boxes fitted. So only the rows of boxes whose heads
+/// rose and the columns of boxes whose tails rose are looked at.
 pub(crate) fn propagate_chains<const K: usize>(
     instance: &Instance,
     state: &mut EdgeState,
     dim: u32,
     all: BitRow<K>,
-    kept: &mut ChainWeightCache<K>,
+    weights: &mut ChainWeights,
+    pending: &mut PendingChains<K>,
 ) -> bool
     requires words { HoldsBoxes K (box_count instance.now) }
     requires sizes { IsSized instance.now state.old dim }
-    requires room { kept.old.boxes ≡ box_count instance.now }
     requires full { HasNoEmptyMask instance.now (excludes state.old.trail) }
     requires transitive { IsTransitive (box_count instance.now) (IsSurelyBefore
         (excludes state.old.trail) dim) }
     requires all { (x : ℕ) → row_has all x ≡ nat_lt x (box_count instance.now) }
-    ensures room { kept.new.boxes ≡ kept.old.boxes }
-    ensures most { kept.new.most ≡ kept.old.most }
+    requires followed { AreFollowed instance.now state.old (length state.old.trail) weights.old
+        pending.old }
     ensures worked { HasApplied instance.now state.old state.new result (IsChainIn dim) }
+    ensures held { AreHeld instance.now state.new weights.new }
+    ensures followed { result ≡ false → AreFollowed instance.now state.new (length state.old.trail)
+        weights.new pending.new }
+    ensures dirty { result ≡ false → (i : ℕ) → row_has pending.new.dirty i
+        ≡ (row_has pending.old.dirty i && not (i == dim)) }
 {
-    let risen = kept.update_from_cache(instance, state, dim, all);
-    if shut_rows(instance, state, dim, risen.heads, kept) {
+    // For the proof alone: states the limits of the state.
+    let _sizes = state.dims();
+    pending.weigh(instance, state, weights, all, dim);
+    let (heads, tails) = pending.risen(dim);
+    if shut_rows(instance, state, dim, heads, weights) {
         return true;
     }
-    shut_columns(instance, state, dim, risen.tails, kept)
+    if shut_columns(instance, state, dim, tails, weights) {
+        return true;
+    }
+    pending.settle(dim);
+    false
 }

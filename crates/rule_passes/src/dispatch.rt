@@ -17,10 +17,8 @@ ghost use Rattle.rule_passes.specs.Reached.{BoundsSides, IsReachedBoth, IsReache
 
 use crate::composing::spread_composed;
 use crate::edges::{apply_apart_if_joined, spread_apart, spread_chords, spread_from};
-use crate::long_chains::shut_long_chain;
 use crate::prechecks::{may_compose, may_spread_apart, may_spread_both, may_spread_chords};
 use box_instances::Instance;
-use early_chains::ChainEstimates;
 use edge_state::{BitRow, EdgeState, Mask, Rel};
 use relation_table::flip;
 
@@ -277,44 +275,7 @@ fn but(rel: Rel) -> Mask
     Mask::all().without(rel)
 }
 
-// Like `propagate_mask`, where `first`, one of `u` and `v`, is surely before `second`, the other
-// one. Before all rules it looks for an over-long chain through both. If it finds one, a mask is
-// emptied and nothing else is applied: most conflicts are such chains, and CHAIN comes last.
-#[inline(always)]
-fn propagate_order<const K: usize>(
-    instance: &Instance,
-    state: &mut EdgeState,
-    guess: &mut ChainEstimates,
-    all: BitRow<K>,
-    dim: u32,
-    u: u32,
-    v: u32,
-    first: u32,
-    second: u32,
-    left: Mask,
-    stale: Mask,
-    most: u32,
-) -> bool
-    requires words { HoldsBoxes K (box_count instance.now) }
-    requires sizes { IsSized instance.now state.old dim }
-    requires u { u < box_count instance.now }
-    requires v { v < box_count instance.now }
-    requires distinct { u ≡ v → ⊥ }
-    requires all { (x : ℕ) → row_has all x ≡ nat_lt x (box_count instance.now) }
-    requires left { (r : PlainRel) → mask_has left r ≡ not (excludes state.old.trail dim u v r) }
-    requires most { BoundsSides instance.now dim most }
-    ensures { HasApplied instance.now state.old state.new result
-        (λ rule. HasNoEmptyMask instance.now (excludes state.old.trail)
-        × IsDue (λ r. not (mask_has stale r)) dim u v rule) }
-{
-    if shut_long_chain::<K>(instance, state, guess, dim, first, second) {
-        return true;
-    }
-    propagate_mask(instance, state, all, dim, u, v, left, stale, most)
-}
-
 /// All instances that read the mask of an edge, which is given, up to those that add the same.
-/// Where one box is surely before the other, a chain through both that is too long ends it at once.
 ///
 /// In each copy the mask is a constant, so what it rules out falls away when the copy is compiled.
 /// Looking through a change, neither the full mask nor the empty one comes.
@@ -322,7 +283,6 @@ fn propagate_order<const K: usize>(
 pub(crate) fn spread<const K: usize>(
     instance: &Instance,
     state: &mut EdgeState,
-    guess: &mut ChainEstimates,
     all: BitRow<K>,
     dim: u32,
     u: u32,
@@ -346,19 +306,9 @@ pub(crate) fn spread<const K: usize>(
     let (overlap, before, after) = (Rel::Overlap, Rel::Before, Rel::After);
     match left.bits() {
         1 => propagate_mask(instance, state, all, dim, u, v, only(overlap), stale, most),
-        2 => {
-            let left = only(before);
-            propagate_order(
-                instance, state, guess, all, dim, u, v, u, v, left, stale, most,
-            )
-        }
+        2 => propagate_mask(instance, state, all, dim, u, v, only(before), stale, most),
         3 => propagate_mask(instance, state, all, dim, u, v, but(after), stale, most),
-        4 => {
-            let left = only(after);
-            propagate_order(
-                instance, state, guess, all, dim, u, v, v, u, left, stale, most,
-            )
-        }
+        4 => propagate_mask(instance, state, all, dim, u, v, only(after), stale, most),
         5 => propagate_mask(instance, state, all, dim, u, v, but(before), stale, most),
         6 => propagate_mask(instance, state, all, dim, u, v, but(overlap), stale, most),
         _ => apply_all_rules(instance, state, all, dim, u, v, left, stale, most),

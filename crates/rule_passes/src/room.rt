@@ -10,24 +10,20 @@ ghost use Rattle.edge_state.specs.BitRows.{IsRowWidth, row_has};
 ghost use Rattle.edge_state.specs.Edges.{oldest};
 ghost use Rattle.edge_state.specs.States.{HasEmptyMask};
 ghost use Rattle.edge_state.specs.Work.{IsUpToDate, IsChainUpToDate};
-ghost use Rattle.orientation_rules.specs.CachedChainWeights.{PlainLevels};
-ghost use Rattle.rule_passes.specs.Rooms.{AreKept, AreMade};
 
-use crate::closing::run_to_fixpoint;
+use crate::closing::close_in;
 use crate::pairs::pass_pairs;
 use crate::rows::all_boxes;
 use box_instances::{Instance, NoMemory};
-use early_chains::ChainEstimates;
-use edge_state::{BitRow, EdgeState, Mark};
-use orientation_rules::ChainWeightCache;
+use edge_state::{BitRow, ChainWeights, EdgeState, Mark};
 use std::alloc::Global;
 use std::marker::Model;
 
 /// The working room of closings, for states of `dims` dimensions and `boxes` boxes. It is seen as
 /// these two sizes, and the number of boxes that it was made for.
 ///
-/// Rows have one word where that holds as many boxes as it was made for, and else two. The weights
-/// of chains are kept from one closing to the next.
+/// Rows have one word where that holds all boxes, and else two. Its weights of chains stand in for
+/// those that a state keeps while they are used.
 #[derive(Drop)]
 pub struct Propagator {
     dims: u32,
@@ -35,9 +31,8 @@ pub struct Propagator {
     most: u32,
     narrow: BitRow<1>,
     wide: BitRow<2>,
-    narrow_kept: Vec<ChainWeightCache<1>>,
-    wide_kept: Vec<ChainWeightCache<2>>,
-    guess: ChainEstimates,
+    stops_early: bool,
+    weights: ChainWeights,
 }
 
 impl Model for Propagator {
@@ -47,74 +42,26 @@ impl Model for Propagator {
 
     ghost view = { λ c. record { dims = c.dims; boxes = c.boxes; most = c.most } };
 
-    ghost invariant = { λ c. HasRoom c.dims c.boxes c.most c.narrow c.wide c.narrow_kept.items
-        c.wide_kept.items };
-}
-
-// How many levels of weights are kept for each dimension. Old ones stand far apart, so it needn't
-// be as many as a path of a search is long.
-const LEVELS: u32 = 8;
-
-// As many where they are wanted, and else none.
-fn count_if(count: u32, wanted: bool) -> u32
-    ensures { wanted ≡ true → result ≡ count }
-{
-    if wanted { count } else { 0 }
-}
-
-// Room for the weights that are kept in each of `dims` dimensions.
-fn levels_of<const K: usize>(
-    alloc: Global,
-    dims: u32,
-    boxes: u32,
-) -> Result<Vec<ChainWeightCache<K>>, NoMemory>
-    requires { IsRowWidth K }
-    ensures { IfOk result (λ kept. AreKept dims boxes kept.items
-        × AreMade dims boxes kept.items) }
-{
-    let mut kept = Vec::new(alloc);
-    for _ in 0..dims {
-        let levels = ChainWeightCache::new(alloc, boxes, LEVELS)?;
-        let Ok(()) = kept.push(levels) else {
-            return Err(NoMemory);
-        };
-    }
-    Ok(kept)
-}
-
-// Uses the room in each dimension for `boxes` boxes.
-fn set_each<const K: usize>(kept: &mut [ChainWeightCache<K>], boxes: u32)
-    requires width { IsRowWidth K }
-    requires few { (k : ℕ) (other : PlainLevels) → k < length kept.old
-        → boxes ≤ (slice_index_or kept.old k other).most }
-    ensures kept { AreKept (length kept.old) boxes kept.new }
-    ensures made { (d most : ℕ) → AreMade d most kept.old → AreMade d most kept.new }
-{
-    for dim in 0..kept.len() {
-        kept[dim].set_boxes(boxes);
-    }
+    ghost invariant = { λ c. HasRoom c.boxes c.most c.narrow c.wide };
 }
 
 impl Propagator {
     // The working room in which a chain that is too long is looked for early, or not.
-    fn made(alloc: Global, dims: u32, boxes: u32, is_early: bool) -> Result<Propagator, NoMemory>
+    fn made(alloc: Global, dims: u32, boxes: u32, stops_early: bool) -> Result<Propagator, NoMemory>
         requires dimensions { IsDimCount dims }
         requires boxes { IsBoxCount boxes }
         ensures { IfOk result
             (λ room. room ≡ record { dims = dims; boxes = boxes; most = boxes }) }
     {
-        let narrow_kept = levels_of::<1>(alloc, count_if(dims, boxes <= 64), boxes)?;
-        let wide_kept = levels_of::<2>(alloc, count_if(dims, boxes > 64), boxes)?;
-        let guess = ChainEstimates::new(alloc, boxes, is_early)?;
+        let weights = ChainWeights::new(alloc)?;
         Ok(Propagator {
             dims,
             boxes,
             most: boxes,
             narrow: all_boxes(boxes.min(64)),
             wide: all_boxes(boxes),
-            narrow_kept,
-            wide_kept,
-            guess,
+            stops_early,
+            weights,
         })
     }
 
@@ -148,11 +95,6 @@ impl Propagator {
         self.boxes = boxes;
         self.narrow = all_boxes(boxes.min(64));
         self.wide = all_boxes(boxes);
-        if self.most > 64 {
-            set_each(self.wide_kept.as_mut_slice(), boxes);
-        } else {
-            set_each(self.narrow_kept.as_mut_slice(), boxes);
-        }
     }
 
     // Closes the state from a position of its list, with rows of as many words as hold all boxes.
@@ -175,12 +117,11 @@ impl Propagator {
     {
         // For the proof alone: states the limits of the state.
         let _sizes = state.dims();
-        if self.most <= 64 {
-            let kept = self.narrow_kept.as_mut_slice();
-            return run_to_fixpoint(instance, state, self.narrow, kept, &mut self.guess, closed);
+        let (early, weights) = (self.stops_early, &mut self.weights);
+        if self.boxes <= 64 {
+            return close_in(instance, state, self.narrow, closed, early, weights);
         }
-        let kept = self.wide_kept.as_mut_slice();
-        run_to_fixpoint(instance, state, self.wide, kept, &mut self.guess, closed)
+        close_in(instance, state, self.wide, closed, early, weights)
     }
 
     /// Excludes what follows from the exclusions of the state, by the seven rules, until no rule
@@ -202,7 +143,6 @@ impl Propagator {
     {
         // For the proof alone: states the limits of the state.
         let _sizes = state.dims();
-        self.guess.restart(instance);
         if pass_pairs(instance, state) {
             return true;
         }

@@ -1,4 +1,6 @@
 use Rattle.std.proofs.Common.{◌≡◌, ◌<◌, ◌*◌, ℕ, true, false}
+use Rattle.packing_terms.specs.declared.Direction.TheVariants.{Forwards, Backwards}
+use Rattle.edge_state.specs.ChainWeights.{weights_in}
 use Rattle.packing_terms.specs.Packing.{box_count}
 use Rattle.edge_state.specs.BitRows.{row_has, members_below}
 use Rattle.edge_state.specs.Passes.{IsPass, IsChainChecked}
@@ -6,11 +8,10 @@ use Rattle.rule_passes.proofs.chains.shut_columns.Given as goal
 
 abbrev pub invariant-loop-v : goal.invariant-loop-v
 invariant-loop-v g l = record {
-  same : l.kept ≡ l.fn.kept;
   within : (v : ℕ) → row_has l.rest v ≡ true → v < box_count l.instance;
   pass : IsPass l.instance l.fn.state l.state
       (λ es. (v : ℕ) → row_has l.fn.row v ≡ true → row_has l.rest v ≡ false → (u : ℕ) → u < box_count l.instance
-      → IsChainChecked l.instance l.dim l.fn.kept.weights.head l.fn.kept.weights.tail u v es);
+      → IsChainChecked l.instance l.dim (weights_in l.weights.numbers Backwards l.dim) (weights_in l.weights.numbers Forwards l.dim) u v es);
 }
 
 abbrev pub decreases-loop-v : goal.decreases-loop-v

@@ -1,9 +1,8 @@
-use Rattle.std.proofs.Common.{ℕ, ◌≡◌, ◌+◌, ◌-◌, ◌*◌, ◌/◌, length}
+use Rattle.std.proofs.Common.{◌≡◌, ◌+◌, ◌-◌, ◌*◌, ◌/◌, length}
 use Rattle.packing_terms.specs.Applied.{Extends}
 use Rattle.edge_state.specs.BitRows.{row_has, members_below}
-use Rattle.packing_terms.specs.Packing.{dims, box_count}
 use Rattle.edge_state.specs.Work.{IsWorklistDone}
-use Rattle.rule_passes.specs.Rooms.{AreKept, AreMade}
+use Rattle.orientation_rules.specs.Pending.{AreFollowed}
 use Rattle.rule_passes.proofs.closing.run_to_fixpoint.Given as goal
 
 abbrev pub invariant-loop-dim : goal.invariant-loop-dim
@@ -12,11 +11,10 @@ invariant-loop-dim g l = record {
   same_boxes : l.state.boxes ≡ l.fn.state.boxes;
   same_box_capacity : l.state.room ≡ l.fn.state.room;
   extends : Extends l.instance l.fn.state.trail l.state.trail;
-  kept : AreKept (dims l.instance) (box_count l.instance) l.kept;
-  made : (most : ℕ) → AreMade (dims l.instance) most l.fn.kept → AreMade (dims l.instance) most l.kept;
-  looked : IsWorklistDone l.instance l.state.trail l.state.trail l.dirty;
+  looked : IsWorklistDone l.instance l.state.trail l.state.trail l.pending.dirty;
+  followed : AreFollowed l.instance l.state (length l.state.trail) l.weights l.pending;
 }
 
 abbrev pub decreases-loop-dim : goal.decreases-loop-dim
 decreases-loop-dim g l = 65 * (3 * l.fn.state.dims * l.fn.state.boxes * (l.fn.state.boxes - 1) / 2 - length
-    l.state.trail) + members_below (row_has l.dirty) 64
+    l.state.trail) + members_below (row_has l.pending.dirty) 64

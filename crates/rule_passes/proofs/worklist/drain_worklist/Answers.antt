@@ -1,5 +1,11 @@
-use Rattle.std.proofs.Common.{◌≤◌, ◌<◌, ◌-◌, ◌*◌, ◌/◌, ◌∙◌, refl, arith, length}
-use Rattle.packing_terms.specs.Exclusions.{IsEdge}
+use Rattle.std.proofs.Common.{◌≤◌, ◌<◌, ◌-◌, ◌*◌, ◌/◌, ◌∙◌, ◌≡◌, refl, sym, ap, not, false, arith, length}
+use Rattle.packing_terms.specs.Exclusions.{IsEdge, excludes}
+use Rattle.packing_terms.specs.Places.{HasNoEmptyMask}
+use Rattle.relation_table.specs.Masks.{mask_has}
+use Rattle.packing_terms.specs.declared.Rel.{Rel}
+use Rattle.edge_state.specs.Edges.{PlainEdges}
+use Rattle.edge_state.specs.Work.{HasApplied, IsDue}
+use Rattle.rule_passes.proofs.Followed.{followed_step, held_grown, some_left}
 use Rattle.packing_terms.proofs.Applied.{extends_refl, extends_trans}
 use Rattle.edge_state.proofs.Worked.{worked_kept}
 use Rattle.edge_state.proofs.Settled.{change_edge, trail_short, behind_within, grown_past, settled_all, chained_all}
@@ -15,6 +21,7 @@ loop-change-init g c = record {
   later = omega arith;
   within = c.requires.mark;
   looked = c.requires.looked;
+  followed = c.requires.followed;
   still = λ e. refl;
 }
 
@@ -41,12 +48,44 @@ is_empty_left-requires g c =
       left = c.mask_in-left.ensures;
     }
 
-pub with_ordered-more-requires-clause-dim : goal.with_ordered-more-requires-clause-dim
-with_ordered-more-requires-clause-dim g c =
+pub shut_long_chain-requires : goal.shut_long_chain-requires
+shut_long_chain-requires g c =
     let s = c.loop-change.state in
     let edge = change_edge s.dims s.boxes s.trail c.loop-change.next _ c.in-Some.change
-    c.dims-sizes.ensures.limits.trail c.in-Some.ensures in
-    omega (arith, edge.dim, c.dims-sizes.ensures.limits.dimensions.1)
+    c.dims-sizes.ensures.limits.trail c.in-Some.ensures in (
+      omega (arith, c.requires.words.0.1),
+      (
+        omega (arith, c.requires.words.0.1),
+        (
+          c.requires.words,
+          (
+            c.loop-change.invariant.same_dims ∙ c.requires.dims,
+            (
+              c.loop-change.invariant.same_boxes ∙ c.requires.boxes,
+              (
+                c.requires.all,
+                (
+                  c.in-Some.ensures,
+                  (
+                    c.mask_in-left.ensures,
+                    (
+                      some_left c.args.instance.now (excludes s.trail) c.in-Some.change.dim c.in-Some.change.u
+                          c.in-Some.change.v c.mask_in-left.result (record {
+                            dim = omega (arith, edge.dim, c.loop-change.invariant.same_dims, c.requires.dims);
+                            first = omega (arith, edge.first, c.loop-change.invariant.same_boxes, c.requires.boxes);
+                            second = omega (arith, edge.second, c.loop-change.invariant.same_boxes, c.requires.boxes);
+                            distinct = edge.distinct;
+                          }) c.if-is_empty_left.ensures c.mask_in-left.ensures,
+                      c.loop-change.invariant.followed,
+                    ),
+                  ),
+                ),
+              ),
+            ),
+          ),
+        ),
+      ),
+    )
 
 pub longest_side-most-requires : goal.longest_side-most-requires
 longest_side-most-requires g c =
@@ -58,6 +97,10 @@ longest_side-most-requires g c =
 pub spread-requires : goal.spread-requires
 spread-requires g c =
     let s = c.loop-change.state in
+    let same = c.shut_long_chain.ensures.same c.if-shut_long_chain.false in
+    let left : (r : Rel) → mask_has c.mask_in-left.result r
+    ≡ not (excludes c.shut_long_chain.new.state.trail c.in-Some.change.dim c.in-Some.change.u c.in-Some.change.v r) =
+    rw same c.mask_in-left.ensures in
     let edge = change_edge s.dims s.boxes s.trail c.loop-change.next _ c.in-Some.change
     c.dims-sizes.ensures.limits.trail c.in-Some.ensures in (
       omega (arith, c.requires.words.0.1),
@@ -65,8 +108,8 @@ spread-requires g c =
         c.requires.words,
         (
           record {
-            same_dims = c.loop-change.invariant.same_dims ∙ c.requires.dims;
-            same_boxes = c.loop-change.invariant.same_boxes ∙ c.requires.boxes;
+            same_dims = ap (λ (z : PlainEdges). z.dims) same ∙ (c.loop-change.invariant.same_dims ∙ c.requires.dims);
+            same_boxes = ap (λ (z : PlainEdges). z.boxes) same ∙ (c.loop-change.invariant.same_boxes ∙ c.requires.boxes);
             there = omega (arith, edge.dim, c.loop-change.invariant.same_dims, c.requires.dims);
           },
           (
@@ -78,7 +121,7 @@ spread-requires g c =
                 (
                   c.requires.all,
                   (
-                    c.mask_in-left.ensures,
+                    left,
                     c.longest_side-most.ensures,
                   ),
                 ),
@@ -107,7 +150,15 @@ loop-change-preserved g c =
     let change = c.in-Some.ensures in
     let edge = change_edge s.dims s.boxes s.trail c.loop-change.next _ c.in-Some.change
     c.dims-sizes.ensures.limits.trail change in
-    let work = worked_kept _ _ _ _ _ c.if-spread.false c.spread.ensures in
+    let same = c.shut_long_chain.ensures.same c.if-shut_long_chain.false in
+    let due : HasApplied c.args.instance.now c.shut_long_chain.new.state c.spread.new.state false
+    (λ rule. HasNoEmptyMask c.args.instance.now (excludes c.shut_long_chain.new.state.trail)
+    × IsDue (λ r. not (mask_has c.behind-after.result.1 r)) c.in-Some.change.dim c.in-Some.change.u c.in-Some.change.v rule)
+    = worked_kept _ _ _ _ _ c.if-spread.false c.spread.ensures in
+    let work : HasApplied c.args.instance.now s c.spread.new.state false
+    (λ rule. HasNoEmptyMask c.args.instance.now (excludes s.trail)
+    × IsDue (λ r. not (mask_has c.behind-after.result.1 r)) c.in-Some.change.dim c.in-Some.change.u c.in-Some.change.v rule)
+    = rw same at due in
     let past = behind_within s.trail c.loop-change.next _ c.in-Some.change _ change.before_last
     c.behind-after.ensures in
     let here : IsEdge c.args.instance.now c.in-Some.change.dim c.in-Some.change.u c.in-Some.change.v
@@ -128,18 +179,35 @@ loop-change-preserved g c =
       looked = looked_step c.args.instance.now _ _ c.in-Some.change _ _ _ _ _ here c.if-is_empty_left.ensures work
           change
           c.behind-after.ensures
-          c.with_ordered-more.ensures.clean c.with_ordered-more.ensures.unordered c.with_ordered-more.ensures.within
+          c.shut_long_chain.ensures.clean c.shut_long_chain.ensures.unordered c.shut_long_chain.ensures.within
           c.loop-change.invariant.looked;
+      followed = followed_step _ _ _ _ _ _ _ _ same due.extends change.before_last c.behind-after.ensures.counted
+          (c.shut_long_chain.ensures.followed c.if-shut_long_chain.false);
       still = λ e. absurd (omega (arith, e, c.loop-change.invariant.later, past.0));
     }
 
 pub returns-then-spread-clause-extends : goal.returns-then-spread-clause-extends
-returns-then-spread-clause-extends g c = extends_trans _ _ _ _ c.loop-change.invariant.extends c.spread.ensures.extends
+returns-then-spread-clause-extends g c =
+    extends_trans _ _ _ _ (extends_trans _ _ _ _ c.loop-change.invariant.extends c.shut_long_chain.ensures.extends)
+    c.spread.ensures.extends
+
+pub returns-then-spread-clause-held : goal.returns-then-spread-clause-held
+returns-then-spread-clause-held g c = held_grown _ _ _ c.spread.ensures.extends _ c.shut_long_chain.ensures.held
+
+pub returns-then-shut_long_chain-clause-extends : goal.returns-then-shut_long_chain-clause-extends
+returns-then-shut_long_chain-clause-extends g c =
+    extends_trans _ _ _ _ c.loop-change.invariant.extends c.shut_long_chain.ensures.extends
 
 pub returns-clause-looked : goal.returns-clause-looked
-returns-clause-looked g c =
+returns-clause-looked g c e =
     let looked = c.loop-change.invariant.looked in record {
       settled = settled_all _ _ _ c.in_default.ensures looked.settled;
       chained = λ i h off. chained_all _ i _ _ c.in_default.ensures (looked.chained i h off);
       within = looked.within;
     }
+
+pub returns-clause-followed : goal.returns-clause-followed
+returns-clause-followed g c e = rw (← c.in_default.ensures) c.loop-change.invariant.followed
+
+pub returns-clause-still : goal.returns-clause-still
+returns-clause-still g c e same = c.loop-change.invariant.still (c.in_default.ensures ∙ sym same)

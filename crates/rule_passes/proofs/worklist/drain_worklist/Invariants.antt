@@ -2,6 +2,7 @@ use Rattle.std.proofs.Common.{◌≡◌, ◌≤◌, ◌-◌, ◌*◌, ◌/◌, l
 use Rattle.packing_terms.specs.Applied.{Extends}
 use Rattle.edge_state.specs.Edges.{oldest}
 use Rattle.edge_state.specs.Work.{IsWorklistDone}
+use Rattle.orientation_rules.specs.Pending.{AreFollowed}
 use Rattle.rule_passes.proofs.worklist.drain_worklist.Given as goal
 
 abbrev pub invariant-loop-change : goal.invariant-loop-change
@@ -12,8 +13,9 @@ invariant-loop-change g l = record {
   extends : Extends l.instance l.fn.state.trail l.state.trail;
   later : l.fn.closed ≤ l.next;
   within : l.next ≤ length l.state.trail;
-  looked : IsWorklistDone l.instance (oldest l.next l.state.trail) l.state.trail l.chains;
-  still : l.next ≡ l.fn.closed → l.chains ≡ l.fn.dirty;
+  looked : IsWorklistDone l.instance (oldest l.next l.state.trail) l.state.trail l.pending.dirty;
+  followed : AreFollowed l.instance l.state l.next l.weights l.pending;
+  still : l.next ≡ l.fn.closed → l.pending.dirty ≡ l.fn.pending.dirty;
 }
 
 abbrev pub decreases-loop-change : goal.decreases-loop-change

@@ -6,7 +6,7 @@ pub overflow_add-next : goal.overflow_add-next
 overflow_add-next c =
     let e = c.self.view_is in
     let small : c.args.mark < length (reverse c.self.inside.trail.items) = rw (← e) at c.requires in
-    omega (arith, kept_few _ _ _ c.self.invariant, small, c.mark.view_is)
+    omega (arith, kept_few _ _ _ c.self.invariant.0, small, c.mark.view_is)
 
 pub returns : goal.returns
 returns c = rw (← c.mark.view_is) refl
