@@ -1,8 +1,20 @@
 use Rattle.std.proofs.lemmas.Result.{IfOk-weaker}
 use Rattle.work_share.specs.Outcomes.{plain_outcome}
 use Rattle.bin_search.specs.Trees.{PlainBinTree}
-use Rattle.bin_search.proofs.Rights.{right_at, decides_at, told_at}
+use Rattle.bin_search.proofs.Rights.{right_at, decides_at, outcome_there, told_at}
 use Rattle.bin_search.proofs.tree.BinTreeTree.explore.Goals as goal
+
+pub returns-clause-outcome : goal.returns-clause-outcome
+returns-clause-outcome c =
+    let e = c.self.view_is in
+    let t : PlainBinTree = record {
+      instance = c.self.inside.instance.now;
+      bins = c.self.inside.bins;
+      scales = c.self.inside.scales;
+    } in
+    rw (← e) (IfOk-weaker c.explore_node.result _ _
+    (λ r h. outcome_there t c.len-limits.ensures.limits c.args.path.now c.args.cap (plain_outcome r) h)
+    (rw (← e) at c.explore_node.ensures))
 
 pub returns-clause-right : goal.returns-clause-right
 returns-clause-right c =
