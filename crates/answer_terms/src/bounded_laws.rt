@@ -7,8 +7,8 @@ pub fn own_bounded_documents_are_verified()
     ensures { OwnBoundedDocumentsAreVerified }
 {}
 
-/// The placed value is the greatest one if the refuted value is one more; else the greatest one lies
-/// between the two. This is the claim of the answer.
+/// The placed value is the greatest one if the refuted value is one more; else the greatest one
+/// lies between the two. This is the claim of the answer.
 pub fn bounded_answers_are_true()
     ensures values { BoundedAnswersAreTrue }
     ensures claims { BoundedClaimsAreTold }

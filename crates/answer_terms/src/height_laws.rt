@@ -2,8 +2,8 @@
 ghost use Rattle.answer_terms.specs.HeightLaws.{BoundedHeightsAreTold, BoundedStripsAreTrue, OwnBoundedStripsAreVerified};
 
 /// The document of a refuted and a placed height, with their certificates, or of a box that is too
-/// wide, is verified with its claim, by its first line it is a bounded document, and the instance in
-/// it is the asked one.
+/// wide, is verified with its claim, by its first line it is a bounded document, and the instance
+/// in it is the asked one.
 pub fn own_bounded_strips_are_verified()
     ensures { OwnBoundedStripsAreVerified }
 {}

@@ -36,8 +36,8 @@ pub fn only_reduced_fit_is_undecided()
     ensures { OnlyReducedFitIsUndecided }
 {}
 
-/// The document that says undecided under `reduced` is of the kind of reduced documents, and refused
-/// as one.
+/// The document that says undecided under `reduced` is of the kind of reduced documents, and
+/// refused as one.
 pub fn reduced_undecided_is_refused()
     ensures { ReducedUndecidedIsRefused }
 {}

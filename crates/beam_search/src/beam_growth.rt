@@ -50,8 +50,8 @@ fn lost_beside(
     u64::from(rest) * u64::from(rise)
 }
 
-// The node after a box is laid into a gap. `values` is what the boxes are worth, and `narrowest` the
-// least width of those that aren't laid.
+// The node after a box is laid into a gap. `values` is what the boxes are worth, and `narrowest`
+// the least width of those that aren't laid.
 pub(crate) fn grown(
     turned: &OrientedInstance,
     values: &[u64],

@@ -12,8 +12,8 @@ use proof_tree::Token;
 use std::alloc::Global;
 
 /// What a proposal may use up: the limits of its tree, and the most splits for a set that grew, and
-/// for one that is worth the goal. With 0 splits such sets stay undecided. A split counts as 40 steps of
-/// the tree for each box of its set.
+/// for one that is worth the goal. With 0 splits such sets stay undecided. A split counts as 40
+/// steps of the tree for each box of its set.
 #[derive(Clone, Copy)]
 pub struct BoundedEffort {
     pub tree: TreeLimits,
@@ -24,9 +24,9 @@ pub struct BoundedEffort {
 /// What is proposed of a value.
 ///
 /// `Refuted`: the tokens of a choice tree that refutes it. `Placed`: boxes by rising number that
-/// are worth it, with their coordinates, box after box. `Undecided`: a set of boxes of value `worth`
-/// stayed undecided, so the same splits refute no value up to `worth`. `Spent`: the limits of the
-/// tree were used up.
+/// are worth it, with their coordinates, box after box. `Undecided`: a set of boxes of value
+/// `worth` stayed undecided, so the same splits refute no value up to `worth`. `Spent`: the limits
+/// of the tree were used up.
 #[derive(Drop)]
 pub enum ValueProposal {
     Refuted(Vec<BoundedToken>),
@@ -58,8 +58,8 @@ const BOXES_BACK: usize = 3;
 
 const MORE_SPLITS: u64 = 100;
 
-// A split of the search that decides sets takes some 2 microseconds for each box of the set (9 to 33
-// boxes), a step of the tree 50 nanoseconds.
+// A split of the search that decides sets takes some 2 microseconds for each box of the set (9 to
+// 33 boxes), a step of the tree 50 nanoseconds.
 const STEPS_PER_BOX: u64 = 40;
 
 // The steps as which a split of a set counts.

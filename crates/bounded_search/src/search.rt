@@ -1,10 +1,10 @@
 //! The search for a choice tree that refutes a value, node by node.
 //!
 //! A node is closed if what is in and undecided is worth less than the goal, or if a tuple prices
-//! it out. Else its next box is in, then out. With a box that is in all boxes are in that come before
-//! it, and with a box that is out all are out that it comes before: what is left over of these
-//! splits is closed by exchanges. The search pauses at sets of boxes that the caller decides, and
-//! closes a node whose set is refuted.
+//! it out. Else its next box is in, then out. With a box that is in all boxes are in that come
+//! before it, and with a box that is out all are out that it comes before: what is left over of
+//! these splits is closed by exchanges. The search pauses at sets of boxes that the caller decides,
+//! and closes a node whose set is refuted.
 //!
 //! Exchanges take 0.7 of the nodes of 9 instances without equal boxes, and 0.03 to 0.3 of those of
 //! instances with many copies.

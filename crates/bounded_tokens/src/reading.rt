@@ -60,8 +60,8 @@ fn plain_line(alloc: Global, line: &LineLexer, dims: u32) -> Option<BoundedToken
 /// answered `Line`.
 ///
 /// It answers `None` exactly where the line has a bad byte or is no token line: neither a plain
-/// token, nor `u Q P F1 .. Fd`, nor `e U V`, where Q, P, U and V are numbers from 0 to 4,294,967,295
-/// and F1 .. Fd is a function for each dimension. It takes no memory.
+/// token, nor `u Q P F1 .. Fd`, nor `e U V`, where Q, P, U and V are numbers from 0 to
+/// 4,294,967,295 and F1 .. Fd is a function for each dimension. It takes no memory.
 pub fn read_bounded_token(alloc: Global, line: &LineLexer, dims: u32) -> Option<BoundedToken>
     requires least { 2 ≤ dims }
     requires most { dims ≤ 4 }

@@ -252,8 +252,8 @@ impl CornerFill {
         sides
     }
 
-    // Lays the boxes of an order from a position on. It answers the weight of all that are left out,
-    // `left` before them, or `u64::MAX` if that is more than the limits allow.
+    // Lays the boxes of an order from a position on. It answers the weight of all that are left
+    // out, `left` before them, or `u64::MAX` if that is more than the limits allow.
     fn fill(
         &mut self,
         turned: &OrientedInstance,
@@ -282,8 +282,8 @@ impl CornerFill {
         left
     }
 
-    /// Lays boxes in an order. It answers the total weight of those that are left out, or `u64::MAX`
-    /// if the fill was cut by `limits`.
+    /// Lays boxes in an order. It answers the total weight of those that are left out, or
+    /// `u64::MAX` if the fill was cut by `limits`.
     pub fn run(
         &mut self,
         turned: &OrientedInstance,

@@ -102,8 +102,8 @@ impl Move {
                 || Move::score(turned, step, top, self.back) > 0)
     }
 
-    // Whether a step that compares all boxes may change: it laid the box that moves back, or the one
-    // that moves forward fits as well and comes before the box of the step.
+    // Whether a step that compares all boxes may change: it laid the box that moves back, or the
+    // one that moves forward fits as well and comes before the box of the step.
     fn may_change_wide(
         &self,
         turned: &OrientedInstance,

@@ -16,8 +16,8 @@ pub(crate) const WIDE: u32 = 1_000;
 
 const NARROW: u32 = 3;
 
-// The rounds of a batch that stack boxes, in two dimensions and in more. The others pack some strips
-// lower that these don't.
+// The number of rounds of a batch that stack boxes, in two dimensions and in more. Some strips are
+// packed lower by the other rounds.
 const FLAT_STACKS: u64 = 5;
 
 const DEEP_STACKS: u64 = 4;

@@ -317,8 +317,8 @@ impl SkylineFill {
         self.fill(limits, 0)
     }
 
-    /// Lays boxes in the order of the kept fill behind a move. `positions` are those of the boxes in
-    /// the new order. It answers like `run`, or that all steps are the same.
+    /// Lays boxes in the order of the kept fill behind a move. `positions` are those of the boxes
+    /// in the new order. It answers like `run`, or that all steps are the same.
     pub fn run_moved(
         &mut self,
         turned: &OrientedInstance,

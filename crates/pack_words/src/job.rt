@@ -33,8 +33,9 @@ pub enum Job {
     /// The greatest value of boxes that fit the container. The choice trees of its upper bounds may
     /// have priced leaves. `proposals` says whether it decides by proposals first.
     Bounded { proposals: bool },
-    /// The least height of a strip that holds the boxes. The tree of its lower bound may have leaves
-    /// by families of boxes side by side. `proposals` says whether it decides by proposals first.
+    /// The least height of a strip that holds the boxes. The tree of its lower bound may have
+    /// leaves by families of boxes side by side. `proposals` says whether it decides by proposals
+    /// first.
     BoundedStrip { proposals: bool },
 }
 

@@ -127,8 +127,8 @@ fn by_ways(proposals: bool, facts: bool, job: Job) -> Option<Job>
     Some(from_facts(job))
 }
 
-// A job whose bounds may have the further leaves, if it takes them: with proposals where it has them.
-// There is none from the symmetry facts on.
+// A job whose bounds may have the further leaves, if it takes them: with proposals where it has
+// them. There is none from the symmetry facts on.
 fn bounded(job: Job) -> Option<Job>
     ensures { result ≡ bounded job }
 {

@@ -11,7 +11,7 @@ use Rattle.packing_terms.specs.OuterRefutation.{Bins, bin_named, placements, Cho
 use Rattle.packing_terms.specs.OuterFeeding.{OpenNode, Outer, Inner}
 
 -- a split on the path: its node, the number of its box in the text, and how many of its children
--- are closed; the path goes on to the next child
+-- are closed; the path continues with the next child
 pub record PathNode (Node : Type 0) : Type 0 where
   pub node : Node
   pub box_no : ℕ

@@ -234,7 +234,8 @@ impl CompactTokens {
         Ok(())
     }
 
-    /// Appends copies of the tokens of another list. Where memory is refused, this one is as before.
+    /// Appends copies of the tokens of another list. Where memory is refused, this one is as
+    /// before.
     pub fn extend_from_list(&mut self, alloc: Global, other: &CompactTokens) -> Result<(), NoMemory>
         ensures appends { OnOk result (self.new ≡ self.old ++ other.now) }
         ensures back { OnErr result (self.new ≡ self.old) }
@@ -251,8 +252,8 @@ impl CompactTokens {
         Ok(())
     }
 
-    /// Appends the tokens of another list, which is used up. Where memory is refused, this one is as
-    /// before.
+    /// Appends the tokens of another list, which is used up. Where memory is refused, this one is
+    /// as before.
     pub fn append(&mut self, other: CompactTokens) -> Result<(), NoMemory>
         ensures appends { OnOk result (self.new ≡ self.old ++ other) }
         ensures back { OnErr result (self.new ≡ self.old) }
@@ -305,8 +306,8 @@ impl CompactTokens {
     }
 }
 
-/// Writes the lines of tokens where no fault came before, and else does nothing and hands the fault
-/// on.
+/// Writes the lines of tokens where no fault came before, and else returns that fault
+/// and writes nothing.
 pub fn write_tokens_on<K: Sink>(sink: &mut K, so_far: Written, tokens: &CompactTokens) -> Written
     ensures { Continues (K.written sink.old) (K.written sink.new) (K.faults sink.old)
         (K.faults sink.new) (token_text tokens.now) so_far result }

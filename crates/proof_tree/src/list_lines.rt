@@ -10,7 +10,8 @@ use crate::short::{Short, write_short};
 use crate::writing::{Written, write_token_on};
 use pack_streams::Sink;
 
-// Writes the lines of a list with its wide tokens where no fault came before, and else does nothing.
+// Writes the lines of a list with its wide tokens where no fault came before, and else does
+// nothing.
 pub(crate) fn write_listed<K: Sink>(
     sink: &mut K,
     so_far: Written,

@@ -113,9 +113,9 @@ fn values_are_refuted_by_a_proposed_tree(rt: HostRuntime) -> Result<(), Fail> {
     Ok(())
 }
 
-// Whether the answer is between two values with a budget of 0, and the greatest value under an ample
-// one. No single token refutes the set of all boxes, only a tree with branchings: with a budget of 0
-// value 5 stays open between 4 and 6.
+// Whether the answer is between two values with a budget of 0, and the greatest value under an
+// ample one. No single token refutes the set of all boxes, only a tree with branchings: with a
+// budget of 0 value 5 stays open between 4 and 6.
 fn is_open_at_the_roots<R: Threads + Wait + Sync>(
     rt: &R,
     alloc: Global,

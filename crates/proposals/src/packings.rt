@@ -17,8 +17,8 @@ fn is_too_full(instance: &Instance) -> bool {
     instance.volume() > room
 }
 
-// A search by up to `batches` batches of rounds that leave out less and less. It ends once all boxes
-// are placed.
+// A search by up to `batches` batches of rounds that leave out less and less. It ends once all
+// boxes are placed.
 fn pack_inside<R: Threads + Sync>(
     rt: &R,
     alloc: Global,

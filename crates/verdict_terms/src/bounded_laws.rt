@@ -1,5 +1,5 @@
-//! The laws over shares, priced nodes and exchanges. Each is proved of all instances, and is read in its
-//! contract.
+//! The laws over shares, priced nodes and exchanges. Each is proved of all instances, and is read
+//! in its contract.
 
 ghost use Rattle.std.specs.Prelude.{None, Ok, ◌≡◌, ◌↔◌, ◌++◌, ◌<◌, ◌≤◌, ◌+◌, ◌*◌, ◌/◌, ◌%◌, ◌||◌, ℕ, length, map, slice_index_or, List, [], ◌∷◌, false, IsTrue};
 ghost use Rattle.std.specs.List.{AllByRecursion};
@@ -66,9 +66,9 @@ pub fn some_best_set_is_complete()
         → IsTrue (comes_before instance v w) → IsTrue (comes_before instance u w) }
 {}
 
-/// What a bounded refutation says is true: the instance doesn't reach the value, and no complete set
-/// of boxes that fits and is worth it agrees with a refuted node. Each plain refutation for a value
-/// is a bounded one.
+/// What a bounded refutation says is true: the instance doesn't reach the value, and no complete
+/// set of boxes that fits and is worth it agrees with a refuted node. Each plain refutation for a
+/// value is a bounded one.
 pub fn bounded_refutations_are_sound()
     ensures value { (instance : PlainInstance) (goal : ℕ) (tokens : List BoundedToken)
         → HasPositiveSides instance → IsBoundedRefutation instance goal tokens
@@ -83,8 +83,8 @@ pub fn bounded_refutations_are_sound()
         → RefutesBounded instance goal nodes (map (λ t. Plain t) tokens) }
 {}
 
-/// Tokens of a bounded refutation fed one by one leave no open node exactly where they are a refutation.
-/// They may be fed in parts.
+/// Tokens of a bounded refutation fed one by one leave no open node exactly where they are a
+/// refutation. They may be fed in parts.
 pub fn bounded_feeding_is_refuting()
     ensures whole { (instance : PlainInstance) (goal : ℕ) (tokens : List BoundedToken) →
         FeedsBounded instance goal (Outer no_choice ∷ []) tokens []
@@ -111,9 +111,9 @@ pub fn bounded_nodes_are_on_paths()
         ≤ box_count instance }
 {}
 
-/// A token isn't refused exactly where the node accepts it, and tokens are taken one by one and leave
-/// no node open exactly where they are a refutation. The open nodes behind a token are those of the
-/// path.
+/// A token isn't refused exactly where the node accepts it, and tokens are taken one by one and
+/// leave no node open exactly where they are a refutation. The open nodes behind a token are those
+/// of the path.
 pub fn bounded_tokens_are_judged()
     ensures judged { (instance : PlainInstance) (goal : ℕ) (node : OpenNode Choice)
         (t : BoundedToken)

@@ -9,6 +9,7 @@ pub enum DocumentKind {
     Front,
     /// `bounded knapsack` or `bounded strip`.
     Bounded,
-    /// `reduced fit` or `reduced strip`, or no line of these kinds: then it is refused as a reduced document is.
+    /// `reduced fit` or `reduced strip`, or no line of these kinds: then it is refused as a reduced
+    /// document is.
     Reduced,
 }

@@ -7,8 +7,8 @@ ghost use Rattle.verdict_terms.specs.Form.{DocumentsHaveForm, DocumentsAreTrue};
 /// `reduced JOB` or `bounded JOB` as the heading says, the lines of an instance, the result line of
 /// the claim, what backs it, and `end`. Reduced documents are of `fit` and `strip`, and refute an
 /// instance, or a height of it, under the instance's symmetry facts. Bounded documents are of
-/// `knapsack` and `strip`, and refute a value by a bounded refutation, a height by a refutation with
-/// families.
+/// `knapsack` and `strip`, and refute a value by a bounded refutation, a height by a refutation
+/// with families.
 pub fn documents_have_form()
     ensures { DocumentsHaveForm }
 {}

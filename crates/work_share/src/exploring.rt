@@ -27,11 +27,11 @@ pub(crate) enum Found {
 const ROOT_CAP: u64 = 1_024;
 
 // What a cap grows by with each step down. A resumed walk counts what it has met before, so a cap
-// has to grow; and slow growth keeps the tasks small, so that all workers stay close to the leftmost
-// unfinished task, and end soon once the board is over: what they explore right of a yes, or of
-// where the budget is spent, is lost. Of a budget of 100,000 that 36 equal boxes spend, in a tree
-// 270 steps deep, four workers took 2.8 times the processor time of one with steps of 64, 1.7 times
-// with 16 and 1.5 times with 8.
+// has to grow; and slow growth keeps the tasks small, so that all workers stay close to the
+// leftmost unfinished task, and end soon once the board is over: what they explore right of a yes,
+// or of where the budget is spent, is lost. Of a budget of 100,000 that 36 equal boxes spend, in a
+// tree 270 steps deep, four workers took 2.8 times the processor time of one with steps of 64, 1.7
+// times with 16 and 1.5 times with 8.
 const CAP_STEP: u64 = 8;
 
 // From this depth on caps grow faster, so the paths of the tasks take little memory: the squares

@@ -212,8 +212,8 @@ fn work_together<'a, R: Threads + Wait + Sync, T: Tree + Sync, G: Gate + Sync>(
     board.into_inner()
 }
 
-// The answer of a board, of which nothing is known: where it isn't for this tree and budget, or
-// isn't over, one thread explores.
+// The outcome that a board holds. If the board is of another tree or budget, or isn't over, this
+// thread explores the whole tree.
 fn answer_of<T: Tree>(
     alloc: Global,
     tree: &T,
@@ -239,10 +239,10 @@ fn answer_of<T: Tree>(
 /// With one worker, or none, the calling thread explores alone, takes no lock and calls no gate.
 /// With more, of which 64 at most are used, the tree is cut into tasks, the first of which is the
 /// root. A task is explored under a cap of 1,024 branchings, 8 more for each step down from the
-/// root, and from 512 steps on the square of the further ones. If its count is greater, it is split,
-/// or explored again under the whole budget if its node is a leaf. The calling thread explores the
-/// root; threads are started only where that leaves tasks. The gate is called before and after the
-/// exploring of each task, outside the lock of the board.
+/// root, and from 512 steps on the square of the further ones. If its count is greater, it is
+/// split, or explored again under the whole budget if its node is a leaf. The calling thread
+/// explores the root; threads are started only where that leaves tasks. The gate is called before
+/// and after the exploring of each task, outside the lock of the board.
 ///
 /// Nothing is promised of which worker explores what and when, of progress, or of speed.
 pub fn solve_shared<R: Threads + Wait + Sync, T: Tree + Sync, G: Gate + Sync>(
