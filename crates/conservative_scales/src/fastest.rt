@@ -274,7 +274,7 @@ pub(crate) fn search_fastest(
     shares: &[u32],
     functions: &mut [ScaleFn],
     made: &mut [u32],
-    told: &mut usize,
+    listed_count: &mut usize,
     left: u32,
     tuple: &mut [ScaleFn],
     images: &[u128],
@@ -285,7 +285,7 @@ pub(crate) fn search_fastest(
     requires fit { SidesFit instance.now }
     requires few { copies ≤ 128 }
     requires rows_room { HasRoomForAll instance.now (length functions.old) (length made.old) }
-    requires rows { 0 < told.old → AreAllRows instance.now told.old functions.old made.old }
+    requires rows { 0 < listed_count.old → AreAllRows instance.now listed_count.old functions.old made.old }
     requires count { length tuple.old ≡ dims instance.now }
     requires there { 1 ≤ dims instance.now }
     requires shares_room { box_count instance.now ≤ length shares.now }
@@ -299,15 +299,15 @@ pub(crate) fn search_fastest(
         (find (has_excess instance.now copies) (within instance.now 1 left (drop 1 tuple.old))
         ≡ None) }
     ensures kept { drop 1 tuple.new ≡ drop 1 tuple.old }
-    ensures rows { 0 < told.new → AreAllRows instance.now told.new functions.new made.new }
+    ensures rows { 0 < listed_count.new → AreAllRows instance.now listed_count.new functions.new made.new }
     ensures functions { length functions.new ≡ length functions.old }
     ensures made { length made.new ≡ length made.old }
 {
     if !may_exceed(instance, copies, shares, images, at, whole_product) {
         return false;
     }
-    need_rows(instance, functions, made, told);
-    let most = most_tried(left, *told);
+    need_rows(instance, functions, made, listed_count);
+    let most = most_tried(left, *listed_count);
     try_rows(
         instance,
         copies,

@@ -58,23 +58,23 @@ fn put_all(instance: &Instance, functions: &mut [ScaleFn], made: &mut [u32]) -> 
     row
 }
 
-/// Makes sure that all functions are listed. `told` is how many are: all or none.
+/// Makes sure that all functions are listed. `listed_count` is how many are: all or none.
 pub(crate) fn need_rows(
     instance: &Instance,
     functions: &mut [ScaleFn],
     made: &mut [u32],
-    told: &mut usize,
+    listed_count: &mut usize,
 )
     requires limits { IsInternalInstance instance.now }
     requires there { 1 ≤ dims instance.now }
     requires fit { SidesFit instance.now }
     requires room { HasRoomForAll instance.now (length functions.old) (length made.old) }
-    requires all { 0 < told.old → AreAllRows instance.now told.old functions.old made.old }
+    requires all { 0 < listed_count.old → AreAllRows instance.now listed_count.old functions.old made.old }
     ensures length { length functions.new ≡ length functions.old }
     ensures places { length made.new ≡ length made.old }
-    ensures all { AreAllRows instance.now told.new functions.new made.new }
+    ensures all { AreAllRows instance.now listed_count.new functions.new made.new }
 {
-    if *told == 0 {
-        *told = put_all(instance, functions, made);
+    if *listed_count == 0 {
+        *listed_count = put_all(instance, functions, made);
     }
 }

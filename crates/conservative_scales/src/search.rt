@@ -35,15 +35,15 @@ fn whole_of(instance: &Instance, dim: u32, f: ScaleFn) -> u128
 
 // Whether a tuple exceeds that ends in the functions from `dim` on, whose products begin at a place
 // of the table, and that has at most `left` functions other than id before them. The first one is
-// left in `tuple`. The list of the functions of dimension 0 holds `told` of them, all or none. What
-// they made of the boxes stands beside it.
+// left in `tuple`. The list of the functions of dimension 0 holds `listed_count` of them, all or
+// none. What they made of the boxes stands beside it.
 fn search(
     instance: &Instance,
     copies: u32,
     shares: &[u32],
     functions: &mut [ScaleFn],
     made: &mut [u32],
-    told: &mut usize,
+    listed_count: &mut usize,
     dim: u32,
     left: u32,
     tuple: &mut [ScaleFn],
@@ -55,7 +55,7 @@ fn search(
     requires fit { SidesFit instance.now }
     requires few { copies ≤ 128 }
     requires rows_room { HasRoomForAll instance.now (length functions.old) (length made.old) }
-    requires rows { 0 < told.old → AreAllRows instance.now told.old functions.old made.old }
+    requires rows { 0 < listed_count.old → AreAllRows instance.now listed_count.old functions.old made.old }
     requires count { length tuple.old ≡ dims instance.now }
     requires some { 1 ≤ dim }
     requires there { dim ≤ dims instance.now }
@@ -72,7 +72,7 @@ fn search(
         (find (has_excess instance.now copies) (within instance.now dim left (drop dim tuple.old))
         ≡ None) }
     ensures kept { drop dim tuple.new ≡ drop dim tuple.old }
-    ensures rows { 0 < told.new → AreAllRows instance.now told.new functions.new made.new }
+    ensures rows { 0 < listed_count.new → AreAllRows instance.now listed_count.new functions.new made.new }
     ensures functions { length functions.new ≡ length functions.old }
     ensures made { length made.new ≡ length made.old }
     ensures length { length images.new ≡ length images.old }
@@ -86,7 +86,7 @@ fn search(
             shares,
             functions,
             made,
-            told,
+            listed_count,
             left,
             tuple,
             images,
@@ -100,7 +100,18 @@ fn search(
     scale(instance, below, ScaleFn::Id, images, at);
     let same = whole_product * whole_of(instance, below, ScaleFn::Id);
     if search(
-        instance, copies, shares, functions, made, told, below, left, tuple, images, next_at, same,
+        instance,
+        copies,
+        shares,
+        functions,
+        made,
+        listed_count,
+        below,
+        left,
+        tuple,
+        images,
+        next_at,
+        same,
     ) {
         return true;
     }
@@ -118,7 +129,7 @@ fn search(
             shares,
             functions,
             made,
-            told,
+            listed_count,
             below,
             left - 1,
             tuple,
@@ -167,7 +178,7 @@ fn first_within<const T: usize, const F: usize, const R: usize>(
     let mut shares = [0; T];
     let mut functions = [ScaleFn::Id; F];
     let mut made = [0; R];
-    let mut told = 0;
+    let mut listed_count = 0;
     let dims = instance.dims();
     put_shares(instance, &mut shares);
     let chosen = &mut tuple[..dims as usize];
@@ -177,7 +188,7 @@ fn first_within<const T: usize, const F: usize, const R: usize>(
         &shares,
         &mut functions,
         &mut made,
-        &mut told,
+        &mut listed_count,
         dims,
         2,
         chosen,

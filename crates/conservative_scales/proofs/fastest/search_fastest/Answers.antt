@@ -15,20 +15,20 @@ pub try_rows-requires-clause-most : goal.try_rows-requires-clause-most
 try_rows-requires-clause-most c =
     let all = c.need_rows.ensures.all in
     let few = all.few in
-    let most = some_tried c.args.instance.now c.need_rows.new.told c.args.left c.most_tried-most.result
+    let most = some_tried c.args.instance.now c.need_rows.new.listed_count c.args.left c.most_tried-most.result
     c.need_rows.new.functions all.all few c.most_tried-most.ensures.none c.most_tried-most.ensures.some in
     omega (arith, most, few)
 
 pub try_rows-requires-clause-rows : goal.try_rows-requires-clause-rows
 try_rows-requires-clause-rows c =
     let all = c.need_rows.ensures.all in
-    rows_among c.args.instance.now c.most_tried-most.result c.need_rows.new.told c.need_rows.new.functions
+    rows_among c.args.instance.now c.most_tried-most.result c.need_rows.new.listed_count c.need_rows.new.functions
     c.need_rows.new.made
-    (some_tried c.args.instance.now c.need_rows.new.told c.args.left c.most_tried-most.result
+    (some_tried c.args.instance.now c.need_rows.new.listed_count c.args.left c.most_tried-most.result
     c.need_rows.new.functions all.all all.few c.most_tried-most.ensures.none c.most_tried-most.ensures.some) all.rows
 
 pub returns-clause-found : goal.returns-clause-found
 returns-clause-found c =
-    rw (tried_within c.args.instance.now c.need_rows.new.told c.args.left c.most_tried-most.result
+    rw (tried_within c.args.instance.now c.need_rows.new.listed_count c.args.left c.most_tried-most.result
     c.need_rows.new.functions (drop 1 c.args.tuple.now) c.need_rows.ensures.all.all
     c.most_tried-most.ensures.none c.most_tried-most.ensures.some) c.try_rows.ensures.found

@@ -11,7 +11,7 @@ decreases-search l = l.dim
 abbrev pub invariant-loop-next : goal.invariant-loop-next
 invariant-loop-next l = record {
   open_at : IsOpen l.instance l.copies l.dim l.below l.left (drop l.dim l.fn.tuple) l.tuple l.next;
-  rows : 0 < l.told → AreAllRows l.instance l.told l.functions l.made;
+  rows : 0 < l.listed_count → AreAllRows l.instance l.listed_count l.functions l.made;
   functions : length l.functions ≡ length l.fn.functions;
   made : length l.made ≡ length l.fn.made;
   length : length l.images ≡ length l.fn.images;
