@@ -249,9 +249,29 @@ impl Instance {
         self.working[box_no as usize][dim as usize]
     }
 
-    /// A bound on the working sides of the boxes in a dimension: none is longer. Of an instance that
-    /// was made of its boxes it is the greatest side; a `BoxSet` may answer that of a box that it no
-    /// longer has.
+    /// The container's working sides, an entry for each dimension. What stands in entries beyond
+    /// them isn't specified.
+    #[inline]
+    pub fn container_row(&self) -> [u32; 4]
+        ensures { (i : ℕ) → i < dims self.now
+            → slice_index result i ≡ container_side self.now i }
+    {
+        self.limits
+    }
+
+    /// A box's working sides, an entry for each dimension. What stands in entries beyond them isn't
+    /// specified.
+    #[inline]
+    pub fn side_row(&self, box_no: u32) -> [u32; 4]
+        requires { box_no < box_count self.now }
+        ensures { (i : ℕ) → i < dims self.now → slice_index result i ≡ side self.now box_no i }
+    {
+        self.working[box_no as usize]
+    }
+
+    /// A bound on the working sides of the boxes in a dimension: none is longer. Of an instance
+    /// that was made of its boxes it is the greatest side; a `BoxSet` may answer that of a box that
+    /// it no longer has.
     #[inline]
     pub fn longest_side(&self, dim: u32) -> u32
         requires { dim < dims self.now }
