@@ -1,11 +1,11 @@
--- Weights of chains: what stays known of them where numbers are raised, taken back and kept as those
--- of the end of a closing, and where the list of exclusions grows and is cut.
+-- Weights of chains stay good at each end of a closing when numbers are raised or taken back, when an
+-- end is recorded or forgotten, and when the list of exclusions grows or is cut.
 use Rattle.std.proofs.Common.{◌≡◌, ℕ, ◌+◌, ◌-◌, ◌<◌, ◌≤◌, ◌⊎◌, inl, inr, refl, sym, ap, ◌∙◌, subst, arith, zero, suc}
 use Rattle.std.proofs.Common.{List, [], ◌∷◌, ◌++◌, length, drop, slice_index, slice_index_or, get_or, reverse, Option, None, Some, append-nil, replicate}
 use Rattle.std.specs.Option.{option_to_list}
 use Rattle.std.specs.List.{AllByRecursion, AllZip}
 use Rattle.std.proofs.Math.ListN.{set}
-use Rattle.std.proofs.lemmas.List.{get_or-set_same, length-set, length-drop, drop-drop, reverse-append, length-replicate, get_or-replicate, length-reverse}
+use Rattle.std.proofs.lemmas.List.{get_or-set_same, length-set, length-drop, drop-drop, reverse-append, length-replicate, get_or-replicate}
 use Rattle.packing_terms.specs.declared.Exclusion.{Exclusion}
 use Rattle.packing_terms.specs.Packing.{PlainInstance, dims, box_count, side}
 use Rattle.packing_terms.specs.Exclusions.{excludes, Exclusions}
@@ -14,7 +14,7 @@ use Rattle.edge_state.specs.Edges.{oldest}
 use Rattle.edge_state.specs.declared.chain_weights.Raise.{Raise}
 use Rattle.edge_state.specs.declared.chain_weights.ClosingEnd.{ClosingEnd}
 use Rattle.edge_state.specs.ChainWeights.{IsWalk, alone, further, AreGood, AreGoodFor, with_number, taken_back, PlainWeights}
-use Rattle.edge_state.specs.ChainWeights.{HoldBack, AreOf, AreForInstance, IsRaised, AreSized, IsNewestEnd}
+use Rattle.edge_state.specs.ChainWeights.{HoldBack, AreOf, AreForInstance, IsLogged, AreSized, IsNewestEnd}
 use Rattle.edge_state.proofs.Oldest.{oldest_more, oldest_all, oldest_twice, oldest_count}
 
 -- a written entry, and what was there written over it
@@ -23,7 +23,7 @@ set_back [] i x d = refl
 set_back (y ∷ xs) zero x d = refl
 set_back (y ∷ xs) (suc i) x d = ap (λ zs. y ∷ zs) (set_back xs i x d)
 
--- what is known of a new entry, and of what was read, is known of what is read then
+-- what holds of a new entry and of an entry before holds of the entry after
 read_set : {A : Type 0} (P : A → Type 0) (xs : List A) (i : ℕ) (x : A) (k : ℕ) (d : A) → P x
     → P (get_or xs k d) → P (get_or (set xs i x) k d)
 read_set P [] i x k d new old = old
@@ -286,7 +286,7 @@ sized_raised k m e l list at w small box few same sized = record {
 pub sized_back : (k : PlainWeights) (m e l : ℕ) (r : Raise) (log : List Raise) → k.log ≡ r ∷ log → l ≡ m
     → AreSized k m e → AreSized (record k { numbers = with_number k.numbers r.list r.at r.old; log = log }) l e
 sized_back k m e l r log is same sized =
-    let raises : AllByRecursion IsRaised (r ∷ log) = rw is at sized.raises in
+    let raises : AllByRecursion IsLogged (r ∷ log) = rw is at sized.raises in
     let list = raises.0.list in
     record {
       lists = length-set k.numbers r.list _ ∙ sized.lists;
@@ -382,7 +382,7 @@ sized_new limits sides numbers log ends m e four boxes lists none raises closing
   small = λ l at. subst (λ (ks : List (List ℕ)). slice_index (slice_index_or ks l []) at ≤ most_weight) (sym lists)
       (read_same (λ (ks : List ℕ). slice_index ks at ≤ most_weight) 8 l zeros []
       (read_same (λ x. x ≤ most_weight) 128 at 0 0 zero_least zero_least) zero_least);
-  raises = subst (λ (rs : List Raise). AllByRecursion IsRaised rs) (sym none) tt;
+  raises = subst (λ (rs : List Raise). AllByRecursion IsLogged rs) (sym none) tt;
   sides = ap length boxes ∙ length-replicate 128 four_zeros;
   each_side = λ u hu. ap (λ (ks : List (List ℕ)). length (slice_index_or ks u [])) boxes
       ∙ (ap length (get_or-replicate 128 u four_zeros [] hu) ∙ length-replicate 4 nothing);

@@ -1,17 +1,14 @@
--- What was looked through, and what is left to do.
+-- What is propagated, and what is left to do.
 use Rattle.std.proofs.Common.{◌≡◌, ℕ, ◌+◌, ◌-◌, ◌*◌, ◌<◌, ◌≤◌, ◌⊎◌, inl, inr, refl, sym, ap, ◌∙◌, arith, Bool, true}
 use Rattle.std.proofs.Common.{false, not, ◌&&◌, eqb, List, length}
 use Rattle.std.proofs.lemmas.Bool.{true≢false, cases_Bool, cases_eq, and_parts, eqb-true}
 use Rattle.std.proofs.lemmas.List.{length-append}
 use Rattle.packing_terms.specs.declared.Rel.{Rel}
-use Rattle.packing_terms.specs.declared.Rel.TheVariants.{Overlap, Before, After}
 use Rattle.packing_terms.specs.declared.Exclusion.{Exclusion}
 use Rattle.packing_terms.specs.Packing.{PlainInstance, dims}
 use Rattle.packing_terms.specs.Exclusions.{excludes, IsEdge}
-use Rattle.packing_terms.proofs.Sets.{excludes_symmetric}
 use Rattle.packing_terms.specs.Applied.{Extends}
 use Rattle.packing_terms.specs.Places.{HasNoEmptyMask}
-use Rattle.relation_table.specs.Masks.{mask_has}
 use Rattle.edge_state.specs.BitRows.{row_has, members_below}
 use Rattle.edge_state.specs.Edges.{PlainEdges, oldest}
 use Rattle.edge_state.specs.Answers.{IsChangeAfter}
@@ -22,28 +19,7 @@ use Rattle.edge_state.proofs.Chained.{chained_grown}
 use Rattle.edge_state.proofs.Settled.{settled_step, chained_step, settled_after, chained_after}
 use Rattle.edge_state.specs.Work.{IsWorklistDone}
 
--- a mask that overlaps, or has before and after, orders nothing
-pub unordered : (es : List Exclusion) (e : Exclusion) (m : ℕ) (o b a : Bool)
-    → ((r : Rel) → mask_has m r ≡ not (excludes es e.dim e.u e.v r))
-    → o ≡ mask_has m Overlap → b ≡ mask_has m Before → a ≡ mask_has m After → (not o && not (b && a)) ≡ false
-    → IsUnordered (excludes es) e
-unordered es e m o b a has ho hb ha off = record {
-  forth = λ f g. tested o b a off (gone Overlap o ho f) (inr (gone After a ha g));
-  back = λ f g. tested o b a off (gone Overlap o ho (excludes_symmetric es e.dim e.v e.u Overlap f))
-      (inl (gone Before b hb (excludes_symmetric es e.dim e.v e.u After g)));
-}
-  where
-    gone : (r : Rel) (x : Bool) → x ≡ mask_has m r → excludes es e.dim e.u e.v r ≡ true → x ≡ false
-    gone r x hx f = hx ∙ (has r ∙ rw f refl)
-
-    tested : (p q s : Bool) → (not p && not (q && s)) ≡ false → p ≡ false → (q ≡ false) ⊎ (s ≡ false) → ⊥
-    tested true q s h f k = true≢false f
-    tested false false s h f k = true≢false h
-    tested false true false h f k = true≢false h
-    tested false true true h f (inl g) = true≢false g
-    tested false true true h f (inr g) = true≢false g
-
--- the changes at one edge are looked through
+-- the changes at one edge are propagated
 pub looked_step : (instance : PlainInstance) (s t : PlainEdges) (e : Exclusion) (fresh : Rel → Bool) (mark next : ℕ)
     (dirty more : List ℕ)
     → IsEdge instance e.dim e.u e.v
@@ -67,7 +43,7 @@ looked_step instance s t e fresh mark next dirty more edge left work change behi
     there i (inl is) = rw is edge.dim
     there i (inr on) = looked.within i on
 
--- CHAIN was applied in one dimension, on top of what was looked through
+-- CHAIN was applied in one dimension, after all was propagated
 pub looked_after : (instance : PlainInstance) (s t : PlainEdges) (k dim : ℕ) (dirty less : List ℕ)
     → IsWorklistDone instance s.trail s.trail dirty
     → HasApplied instance s t false (IsChainIn dim) → k ≡ length s.trail

@@ -213,7 +213,7 @@ due_applied fresh j p q (Order i a b c d) (e, inr (inl h)) = (e, inr (inl h))
 due_applied fresh j p q (Order i a b c d) (e, inr (inr h)) = (e, inr (inr h.0))
 
 -- The step of the worklist: where all instances that are due for the edge of the oldest exclusion that
--- wasn't looked through yet cover what they add, and each instance what it adds by the older ones,
+-- wasn't propagated yet cover what they add, and each instance what it adds by the older ones,
 -- each covers what it adds with that exclusion. Its relation is among the fresh ones. An instance
 -- that asks there for another relation alone adds no more than before.
 covered_due : (instance : PlainInstance) (fresh : Rel → Bool) (e : Exclusion) (seen old new : List Exclusion)
@@ -250,7 +250,7 @@ covered_due instance fresh e seen old new first within settled done rule local =
         let h = reached instance (e ∷ seen) (λ s. fresh (mirror s)) e.dim e.v e.u rule t in
         by_reached rule h.0 (done h.0 (due_swapped fresh e.dim e.u e.v h.0 h.1)) h.2 h.3 i u v r add need
 
--- no mask is empty by what was looked through, since that of the edge isn't
+-- no mask is empty by the propagated exclusions, since that of the edge isn't
 full_next : (instance : PlainInstance) (e : Exclusion) (seen old : List Exclusion)
     → IsSubset (excludes (e ∷ seen)) (excludes old) → HasNoEmptyMask instance (excludes seen)
     → ((r : Rel) × (excludes old e.dim e.u e.v r ≡ false)) → HasNoEmptyMask instance (excludes (e ∷ seen))

@@ -76,7 +76,7 @@ pub propagated : (instance : PlainInstance) (seen es : List Exclusion) → IsUpT
     → IsPropagated instance seen es
 propagated instance seen es h = record { covered = λ none. h.covered; full = h.full }
 
--- where all was looked through, no mask is empty
+-- if all is propagated, no mask is empty
 pub up_to_date : (instance : PlainInstance) (es : List Exclusion) → IsPropagated instance es es
     → IsUpToDate instance es es
 up_to_date instance es h = record { covered = h.covered h.full; full = h.full }
@@ -86,7 +86,7 @@ module _ (instance : PlainInstance) (s t : PlainEdges) (e : Exclusion) (edge : I
     (fresh : Rel → Bool)
     (work : HasApplied instance s t false (λ rule. HasNoEmptyMask instance (excludes s.trail)
     × IsDue fresh e.dim e.u e.v rule)) where
-  -- what was looked through after one change more
+  -- what is propagated after one change more
   seen_next : (mark next : ℕ) (f : Exclusion) → IsChangeAfter s.trail mark f next
       → oldest next t.trail ≡ f ∷ oldest mark s.trail
   seen_next mark next f change =
@@ -227,7 +227,7 @@ all_covered instance es settled chains (Compose i u v x) is = settled.covered (C
 all_covered instance es settled chains (Cycle i a b c d) is = settled.covered (Cycle i a b c d) tt
 all_covered instance es settled chains (Order i a b c d) is = settled.covered (Order i a b c d) tt
 
--- All is looked through and CHAIN adds nothing: no rule adds anything.
+-- All is propagated and CHAIN adds nothing: no rule adds anything.
 none_left : (instance : PlainInstance) (es : List Exclusion) → IsUpToDate instance es es
     → ((i : ℕ) → i < dims instance → IsChainUpToDate instance i es es) → (rule : Rule) → IsRuleInstance instance rule
     → Premises instance (excludes es) rule → (r : Rel) → Concludes (excludes es) rule r
@@ -274,7 +274,7 @@ chained_after instance i old new k extends e h = subst (λ (l : List Exclusion).
     same : oldest k new ≡ old
     same = oldest_grown extends.more old new k extends.grown (omega (arith, e)) ∙ oldest_all old k e
 
--- nothing was looked through, and PAIR was applied at all pairs
+-- nothing is propagated yet, and PAIR was applied at all pairs
 pairs_first : (instance : PlainInstance) (old new : List Exclusion)
     → ((i u v : ℕ) → IsRuleInstance instance (Pair i u v) → IsCovered instance (excludes old) new (Pair i u v))
     → (i u v : ℕ) → IsRuleInstance instance (Pair i u v) → IsCovered instance (excludes []) new (Pair i u v)
@@ -326,7 +326,7 @@ grown_past instance old new mark next e fresh extends h behind =
     let within = behind_within old mark next e fresh h behind in
     omega (arith, grown, within.1)
 
--- the last position is reached: all was looked through
+-- the last position is reached: all is propagated
 pub settled_all : (instance : PlainInstance) (es : List Exclusion) (k : ℕ) → k ≡ length es
     → IsPropagated instance (oldest k es) es
     → IsPropagated instance es es

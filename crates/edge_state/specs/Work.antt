@@ -2,7 +2,7 @@
 -- then covered.
 --
 -- The worklist is the newer part of the state's own list of exclusions; `seen` is the older part,
--- that was looked through. Each instance of a rule other than CHAIN that could add something by all
+-- which is propagated. Each instance of a rule other than CHAIN that could add something by all
 -- exclusions has a premise at an edge of the newer part; so once that is empty, no such instance
 -- adds anything. CHAIN can add something in a dimension only where a pair of it became ordered.
 use Rattle.std.specs.Prelude.{ℕ, ◌≡◌, ◌≢◌, ◌⊎◌, ◌+◌, ◌<◌, List, Bool, true, false, IsTrue}
@@ -105,20 +105,20 @@ pub record HasApplied (instance : PlainInstance) (old new : PlainEdges) (emptied
   pub empty : IsTrue emptied → HasEmptyMask instance (excludes new.trail)
   pub done : emptied ≡ false → (rule : Rule) → Rules rule → IsCovered instance (excludes old.trail) new.trail rule
 
--- The invariant of the worklist: all that an instance of a rule other than CHAIN adds by what was
--- looked through is excluded, and no mask is empty by it.
+-- The invariant of the worklist: all that an instance of a rule other than CHAIN derives from the
+-- propagated exclusions is excluded, and no mask is empty by them.
 pub record IsUpToDate (instance : PlainInstance) (seen es : List Exclusion) : Type 0 where
   pub covered : (rule : Rule) → IsLocal rule → IsCovered instance (excludes seen) es rule
   pub full : HasNoEmptyMask instance (excludes seen)
 
--- Like `IsUpToDate`, where no mask is empty by the whole list. An empty mask is found when its own
--- exclusions are looked through, so no instance has to find it earlier.
+-- Like `IsUpToDate`, if no mask is empty by the whole list. An empty mask is found when its own
+-- exclusions are propagated, so no instance has to find it earlier.
 pub record IsPropagated (instance : PlainInstance) (seen es : List Exclusion) : Type 0 where
   pub covered : HasNoEmptyMask instance (excludes es) → (rule : Rule) → IsLocal rule
       → IsCovered instance (excludes seen) es rule
   pub full : HasNoEmptyMask instance (excludes seen)
 
--- all that CHAIN adds in this dimension by what was looked through is excluded
+-- all that CHAIN derives in this dimension from the propagated exclusions is excluded
 pub record IsChainUpToDate (instance : PlainInstance) (i : ℕ) (seen es : List Exclusion) : Type 0 where
   pub covered : (rule : Rule) → IsChainIn i rule → IsCovered instance (excludes seen) es rule
 
@@ -132,8 +132,8 @@ pub record IsNextMark (mark : ℕ) (e : Exclusion) (fresh : Rel → Bool) (next 
   pub counted : next ≡ mark + 1
   pub new : fresh e.rel ≡ true
 
--- What was looked through of a list: no rule adds anything by it but CHAIN in the dimensions of a
--- row.
+-- The worklist is drained: no rule derives anything from the propagated exclusions but CHAIN in the
+-- dimensions of `dirty`.
 pub record IsWorklistDone (instance : PlainInstance) (seen es : List Exclusion) (dirty : List ℕ) : Type 0 where
   pub settled : IsPropagated instance seen es
   pub chained : (i : ℕ) → i < dims instance → row_has dirty i ≡ false → IsChainUpToDate instance i seen es

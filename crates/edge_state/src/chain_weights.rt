@@ -1,5 +1,5 @@
-//! Weights of chains that a state keeps for its closings, and what they were where earlier ones
-//! ended.
+//! Weights of heaviest chains that a state keeps for its closings, with a log that restores those
+//! of the end of an earlier one.
 ghost use Rattle.std.specs.Prelude.{◌≡◌, ◌+◌, ◌-◌, ◌<◌, ◌≤◌, ◌⊎◌, ℕ, [], true, false, length, drop, set, slice_index, slice_index_or, List, IfOk, MatchOption};
 ghost use Rattle.packing_terms.specs.Packing.{PlainInstance, dims, box_count, side, container_side};
 ghost use Rattle.packing_terms.specs.Limits.{IsBoxCount};
@@ -16,7 +16,7 @@ use packing_terms::Direction;
 use std::alloc::Global;
 use std::marker::Model;
 
-/// A number that was raised: the list in which it stands, its place there, and what it was.
+/// An entry of the log: the list and the index of a number that was raised, and the number before.
 #[derive(Clone, Copy)]
 pub struct Raise {
     pub list: u32,
@@ -24,27 +24,28 @@ pub struct Raise {
     pub old: u64,
 }
 
-/// The end of a closing: the position of the state's list, and how many raises there were.
+/// The end of a closing: the mark of the state, and the length of the log.
 #[derive(Clone, Copy)]
 pub struct ClosingEnd {
     pub mark: Mark,
     pub raises: usize,
 }
 
-// The most raises that are kept. The longest log of the instances that were measured has 514.
-const MOST_RAISES: usize = 4_096;
+// The capacity of the log. The longest one of the measured instances has 514 raises.
+const MAX_RAISES: usize = 4_096;
 
-// The most ends that are kept: a search goes seldom deeper.
-const MOST_ENDS: usize = 1_024;
+// The capacity for ends. A search keeps one a level, and is seldom this deep.
+const MAX_ENDS: usize = 1_024;
 
-// The greatest weight: the most boxes, of the greatest sides.
-const MOST_WEIGHT: u64 = 128_000_000;
+// The greatest weight of a chain: 128 boxes of side 1,000,000.
+const MAX_WEIGHT: u64 = 128_000_000;
 
 /// For each dimension the weights of the heaviest chains that end in each box (backwards) and that
-/// start there (forwards), with a log of what was raised, so that they can be taken back to the
-/// end of an earlier closing.
+/// start in it (forwards), with a log of raises that restores them as they were at the end of an
+/// earlier closing.
 ///
-/// They are seen with the sides that they are of, the raises and the ends, the newest first.
+/// The view has the sides of the container and of the boxes, the weights, and the log and the ends
+/// of closings, newest first.
 #[derive(Drop)]
 pub struct ChainWeights {
     limits: [u32; 4],
@@ -77,7 +78,7 @@ impl Model for ChainWeights {
     }) (vec_capacity k.log) (vec_capacity k.ends) };
 }
 
-// Which of the lists has the weights of a direction and dimension.
+// The index of the list for a direction and dimension.
 #[inline]
 fn list_of(direction: Direction, dim: u32) -> usize
     requires { dim < 4 }
@@ -91,7 +92,7 @@ fn list_of(direction: Direction, dim: u32) -> usize
 }
 
 impl ChainWeights {
-    /// No weights of any boxes, with all memory that later calls need.
+    /// Weights of 0, with no end of a closing. It takes all memory that later calls need.
     pub fn new(alloc: Global) -> Result<ChainWeights, NoMemory>
         ensures { IfOk result (λ k. k.ends ≡ []) }
     {
@@ -101,10 +102,10 @@ impl ChainWeights {
         let Ok(numbers) = vec![in alloc; [0u64; MAX_BOXES]; 8] else {
             return Err(NoMemory);
         };
-        let Ok(log) = Vec::with_capacity(alloc, MOST_RAISES) else {
+        let Ok(log) = Vec::with_capacity(alloc, MAX_RAISES) else {
             return Err(NoMemory);
         };
-        let Ok(ends) = Vec::with_capacity(alloc, MOST_ENDS) else {
+        let Ok(ends) = Vec::with_capacity(alloc, MAX_ENDS) else {
             return Err(NoMemory);
         };
         Ok(ChainWeights {
@@ -117,7 +118,7 @@ impl ChainWeights {
     }
 
     /// The weights of one direction in a dimension, an entry for each of 128 boxes: backwards those
-    /// of the chains that end in the box, forwards those of the chains that start there. `dim` is
+    /// of the chains that end in the box, forwards those of the chains that start in it. `dim` is
     /// below 4.
     #[inline]
     pub fn weights(&self, direction: Direction, dim: u32) -> &[u64]
@@ -129,9 +130,8 @@ impl ChainWeights {
         self.numbers[list_of(direction, dim)].as_slice()
     }
 
-    /// Raises a weight, or writes a new one: box `v` is below 128, `dim` below 4. It answers false
-    /// where nothing is written, as it is where the weight is above 128,000,000 or as many raises
-    /// are kept as there is memory for.
+    /// Writes the weight of box `v` and logs the old one; `v` is below 128, `dim` below 4. Returns
+    /// whether it did. It changes nothing if `weight` is above 128,000,000 or the log is full.
     #[inline]
     pub fn write(&mut self, direction: Direction, dim: u32, v: u32, weight: u64) -> bool
         requires dim { dim < 4 }
@@ -145,10 +145,10 @@ impl ChainWeights {
         ensures same { result ≡ false → self.new ≡ self.old }
         ensures full { result ≡ false → (most_weight < weight) ⊎ (4096 ≤ length self.old.log) }
     {
-        if weight > MOST_WEIGHT {
+        if weight > MAX_WEIGHT {
             return false;
         }
-        if self.log.len() >= MOST_RAISES {
+        if self.log.len() >= MAX_RAISES {
             return false;
         }
         let list = list_of(direction, dim);
@@ -162,8 +162,8 @@ impl ChainWeights {
         true
     }
 
-    /// Forgets what was raised and the ends of closings, where there isn't memory for `more` raises.
-    /// The weights stay.
+    /// Makes sure that the log has memory for `more` raises: without it, the log is emptied and the
+    /// ends of closings are forgotten. The weights stay.
     pub fn reserve(&mut self, more: usize)
         requires { more ≤ 4096 }
         ensures limits { self.new.limits ≡ self.old.limits }
@@ -172,12 +172,12 @@ impl ChainWeights {
         ensures held { IsSameHistory self.old self.new }
         ensures room { length self.new.log + more ≤ 4096 }
     {
-        if self.log.len() + more > MOST_RAISES {
+        if self.log.len() + more > MAX_RAISES {
             self.forget();
         }
     }
 
-    // Forgets what was raised, and the ends of closings.
+    // Empties the log and forgets the ends of closings.
     pub(crate) fn forget(&mut self)
         ensures { self.new ≡ record self.old { log = []; ends = [] } }
     {
@@ -185,7 +185,7 @@ impl ChainWeights {
         self.ends.clear();
     }
 
-    // Takes the newest raises back, up to these first ones.
+    // Takes back all raises but the `first` oldest ones.
     fn take_back(&mut self, first: usize)
         ensures { self.new ≡ record self.old {
           numbers = taken_back (length self.old.log - first) self.old.numbers self.old.log;
@@ -200,7 +200,7 @@ impl ChainWeights {
         }
     }
 
-    // The newest end of a closing, if one is kept.
+    // The newest end of a closing, if there is one.
     #[inline]
     fn newest_end(&self) -> Option<ClosingEnd>
         ensures { MatchOption result (self.now.ends ≡ [])
@@ -213,7 +213,7 @@ impl ChainWeights {
         Some(self.ends[count - 1])
     }
 
-    /// Gives the ends up that are beyond a position of the state's list.
+    /// Forgets the ends with a mark beyond `to`.
     #[inline]
     pub(crate) fn cut_to(&mut self, to: Mark)
         ensures { (d n : ℕ) (es : List Exclusion) → to ≤ length es → AreOf d n es self.old
@@ -246,7 +246,8 @@ impl ChainWeights {
         true
     }
 
-    // Makes them weights of these boxes and this container, of which nothing is known.
+    // Writes the sides of these boxes and of this container. The weights are then arbitrary
+    // numbers, without an end of a closing.
     fn make_for(&mut self, instance: &Instance)
         ensures instance { AreForInstance instance.now self.new }
         ensures ends { self.new.ends ≡ [] }
@@ -262,9 +263,9 @@ impl ChainWeights {
         }
     }
 
-    /// Makes them the weights of the newest end of a closing, if that is at a position of the
-    /// state's list, which the answer shows, and they are of these boxes and this container. Else
-    /// nothing is known of them. What was raised since is taken back.
+    /// Restores the weights of the newest end of a closing and returns true, if its mark is
+    /// `closed` and the weights are of these boxes and this container. Otherwise the weights are
+    /// arbitrary numbers.
     pub(crate) fn begin(&mut self, instance: &Instance, closed: Mark) -> bool
         ensures instance { AreForInstance instance.now self.new }
         ensures held { (es : List Exclusion) → AreOf (dims instance.now) (box_count instance.now) es
@@ -289,8 +290,8 @@ impl ChainWeights {
         true
     }
 
-    /// Keeps them as those of the end of a closing at a position of the state's list. The oldest
-    /// ones are forgotten where there isn't memory for more.
+    /// Records the end of a closing at a mark of the state, the newest one. If there isn't memory
+    /// for one more, all older ends are forgotten.
     pub(crate) fn end(&mut self, at: Mark)
         ensures numbers { self.new.numbers ≡ self.old.numbers }
         ensures held { (instance : PlainInstance) (es : List Exclusion) → length es ≡ at
@@ -299,7 +300,7 @@ impl ChainWeights {
             → AreGoodFor instance (excludes es) self.old.numbers
             → AreOf (dims instance) (box_count instance) es self.new }
     {
-        if self.ends.len() >= MOST_ENDS {
+        if self.ends.len() >= MAX_ENDS {
             self.forget();
         }
         let raises = self.log.len();

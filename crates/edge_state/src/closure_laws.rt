@@ -30,10 +30,10 @@ pub fn closings_begin()
         → IsStable instance (excludes (drop k es)) → IsChainUpToDate instance i (drop k es) es }
 {}
 
-/// An exclusion is looked through once the instances that are to be applied for its edge, in both
-/// orders of its boxes, cover what they add, and its mask isn't empty. CHAIN has to be looked at
-/// again in its dimension alone, and only where its two boxes are ordered now.
-pub fn changes_are_looked_through()
+/// An exclusion is propagated once the instances that are to be applied for its edge, in both
+/// orders of its boxes, cover what they add, and its mask isn't empty. CHAIN has to be applied
+/// again in its dimension alone, and only if its two boxes are ordered now.
+pub fn changes_are_propagated()
     ensures settled { (instance : PlainInstance) (e : PlainExclusion)
         (seen old new : List PlainExclusion) → IsSubset (excludes (e ∷ seen)) (excludes old)
         → IsUpToDate instance seen new → ((r : PlainRel) × (excludes old e.dim e.u e.v r ≡ false))
@@ -55,8 +55,8 @@ pub fn chains_are_covered()
         → IsChainUpToDate instance i old new }
 {}
 
-/// Where the whole list is looked through, surely before is transitive, since COMPOSE adds nothing;
-/// and where CHAIN adds nothing either, no rule does.
+/// If the whole list is propagated, surely before is transitive, since COMPOSE adds nothing; if
+/// CHAIN adds nothing either, no rule does.
 pub fn settled_lists_are_stable()
     ensures transitive { (instance : PlainInstance) (es : List PlainExclusion) (i : ℕ)
         → i < dims instance → IsUpToDate instance es es

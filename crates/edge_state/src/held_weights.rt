@@ -1,4 +1,4 @@
-//! The weights of chains that a state holds go to a closing and come back at its end.
+//! A closing borrows the chain weights of its state, and gives them back at its end.
 ghost use Rattle.std.specs.Prelude.{◌≡◌, ◌≤◌, true, length};
 ghost use Rattle.packing_terms.specs.Packing.{dims, box_count};
 ghost use Rattle.packing_terms.specs.Exclusions.{excludes};
@@ -11,10 +11,12 @@ use box_instances::Instance;
 use std::mem::swap;
 
 impl EdgeState {
-    /// Hands out the weights of chains for a closing of a state that was closed, without an empty
-    /// mask, at a position of its list. Answers whether they are those of that position, with
-    /// which each two boxes fit; else nothing is known of them. The state holds `weights` as long
-    /// as that, of which nothing is left then. It takes no memory.
+    /// Exchanges the chain weights of the state with `weights` for a closing. Returns whether they
+    /// are good for the state at `closed`, the mark at which it was last closed without a conflict:
+    /// settled weights of walks, by which each two boxes fit. Otherwise they are arbitrary numbers.
+    /// It takes no memory.
+    ///
+    /// The state keeps `weights` until `end_closing`, without a log or an end of a closing.
     pub fn begin_closing(
         &mut self,
         instance: &Instance,
@@ -36,9 +38,9 @@ impl EdgeState {
         weights.begin(instance, closed)
     }
 
-    /// Takes the weights back that `begin_closing` handed out, at the end of that closing. Where it
-    /// ended without an empty mask, these are weights of the state with which each two boxes fit,
-    /// and the next closing from here on begins with them. It takes no memory.
+    /// Exchanges the weights back at the end of a closing that `begin_closing` began. `is_settled`
+    /// says that it ended without a conflict and that the weights are good for the state: a later
+    /// closing from this mark begins with them. It takes no memory.
     pub fn end_closing(&mut self, instance: &Instance, weights: &mut ChainWeights, is_settled: bool)
         requires dims { self.old.dims ≡ dims instance.now }
         requires boxes { self.old.boxes ≡ box_count instance.now }

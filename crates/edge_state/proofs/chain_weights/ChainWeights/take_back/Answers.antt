@@ -1,7 +1,7 @@
 use Rattle.std.proofs.Common.{◌≡◌, ◌<◌, ◌+◌, ◌-◌, ◌∙◌, ap, arith, [], ◌∷◌, length, reverse, refl, sym}
 use Rattle.std.specs.List.{AllByRecursion}
 use Rattle.std.proofs.lemmas.List.{get_or_read, reverse-append, length_push}
-use Rattle.edge_state.specs.ChainWeights.{IsRaised}
+use Rattle.edge_state.specs.ChainWeights.{IsLogged}
 use Rattle.edge_state.proofs.Histories.{sized_back, back_next, drop_next, is_written}
 use Rattle.edge_state.proofs.chain_weights.ChainWeights.take_back.Goals as goal
 
@@ -11,7 +11,7 @@ loop-self-preserved c =
     let r = c.in-Some.raise in
     let is : reverse c.loop-self.self-inside.log.items ≡ r ∷ reverse c.pop.new.self.items =
     ap reverse c.in-Some.ensures.items ∙ reverse-append c.pop.new.self.items (r ∷ []) in
-    let raises : AllByRecursion IsRaised (r ∷ reverse c.pop.new.self.items) = rw is at kept.sized.raises in
+    let raises : AllByRecursion IsLogged (r ∷ reverse c.pop.new.self.items) = rw is at kept.sized.raises in
     let within : r.list < length c.loop-self.self-inside.numbers.items =
     omega (arith, raises.0.list, kept.sized.lists) in
     let row = get_or_read c.loop-self.self-inside.numbers.items _ _ within c.index_mut.ensures.value [] in

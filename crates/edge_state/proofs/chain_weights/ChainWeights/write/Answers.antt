@@ -15,7 +15,7 @@ invariant_of-self c =
       is_written c.self.inside.numbers.items _ c.list_of-list.result c.args.v c.args.weight row,
     )
     (sized_raised _ _ _ _ c.list_of-list.result c.args.v c.args.weight c.list_of-list.ensures.limit c.requires.v
-    c.if-weight-gt-MOST_WEIGHT.false c.push_reserved.ensures.capacity c.self.invariant)
+    c.if-weight-gt-MAX_WEIGHT.false c.push_reserved.ensures.capacity c.self.invariant)
 
 pub returns-clause-history : goal.returns-clause-history
 returns-clause-history c =
