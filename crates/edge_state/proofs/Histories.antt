@@ -317,8 +317,8 @@ pub back_next : (numbers : List (List ℕ)) (log rest : List Raise) (r : Raise) 
     → j + 1 ≡ next → with_number (taken_back j numbers log) r.list r.at r.old ≡ taken_back next numbers log
 back_next numbers log rest r j next is e = let both = back_sum j 1 next numbers log e in rw is at both
 
--- and the raises before it are left
-pub drop_next : (log rest : List Raise) (r : Raise) (j next : ℕ) → drop j log ≡ r ∷ rest → j + 1 ≡ next
+-- what follows the first entry that is left, once that is dropped too
+pub drop_next : {A : Type 0} (log rest : List A) (r : A) (j next : ℕ) → drop j log ≡ r ∷ rest → j + 1 ≡ next
     → rest ≡ drop next log
 drop_next log rest r j next is e =
     let both : drop 1 (drop j log) ≡ drop next log = drop-drop 1 j log ∙ ap (λ k. drop k log) e in
@@ -409,16 +409,3 @@ copy_same [] [] h = refl
 copy_same [] (y ∷ ys) h = absurd h
 copy_same (x ∷ xs) [] h = absurd h
 copy_same (x ∷ xs) (y ∷ ys) h = rw (h.0, copy_same xs ys h.1) refl
-
--- the newest exclusion is taken back, and with it what was kept beyond the others
-pub of_undone : (d n : ℕ) (xs ys : List Exclusion) (e : Exclusion) (count : ℕ) (old new : PlainWeights)
-    → xs ≡ ys ++ e ∷ [] → count ≡ length ys → AreOf d n (reverse xs) old
-    → ((m k : ℕ) (es : List Exclusion) → count ≤ length es → AreOf m k es old → AreOf m k (oldest count es) new)
-    → AreOf d n (reverse ys) new
-of_undone d n xs ys e count old new is few h cut =
-    let first : reverse xs ≡ e ∷ reverse ys = ap reverse is ∙ reverse-append ys (e ∷ []) in
-    let rest : count ≡ length (reverse ys) = few ∙ sym (length-reverse ys) in
-    let within : count ≤ length (reverse xs) = omega (arith, ap length first, rest) in
-    let same : oldest count (reverse xs) ≡ reverse ys = ap (λ es. oldest count es) first
-    ∙ (oldest_more count (e ∷ []) (reverse ys) (omega (arith, rest)) ∙ oldest_all (reverse ys) count rest) in
-    subst (λ (es : List Exclusion). AreOf d n es new) same (cut d n (reverse xs) within h)

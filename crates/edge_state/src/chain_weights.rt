@@ -91,6 +91,15 @@ fn list_of(direction: Direction, dim: u32) -> usize
     }
 }
 
+// Whether two rows of sides are equal.
+#[inline]
+fn is_same_row(first: &[u32; 4], second: &[u32; 4]) -> bool
+    ensures { result ≡ true → (i : ℕ) → i < 4
+        → slice_index first.now i ≡ slice_index second.now i }
+{
+    first[0] == second[0] && first[1] == second[1] && first[2] == second[2] && first[3] == second[3]
+}
+
 impl ChainWeights {
     /// Weights of 0, with no end of a closing. It takes all memory that later calls need.
     pub fn new(alloc: Global) -> Result<ChainWeights, NoMemory>
@@ -142,6 +151,7 @@ impl ChainWeights {
             ≡ with_number self.old.numbers (list_number direction dim) v weight }
         ensures logged { result ≡ true → (length self.new.log ≡ length self.old.log + 1)
             × (length self.new.log ≤ 4096) }
+        ensures small { result ≡ true → weight ≤ most_weight }
         ensures same { result ≡ false → self.new ≡ self.old }
         ensures full { result ≡ false → (most_weight < weight) ⊎ (4096 ≤ length self.old.log) }
     {
@@ -171,6 +181,7 @@ impl ChainWeights {
         ensures numbers { self.new.numbers ≡ self.old.numbers }
         ensures held { IsSameHistory self.old self.new }
         ensures room { length self.new.log + more ≤ 4096 }
+        ensures kept { length self.old.log + more ≤ 4096 → self.new ≡ self.old }
     {
         if self.log.len() + more > MAX_RAISES {
             self.forget();
@@ -227,20 +238,17 @@ impl ChainWeights {
         }
     }
 
-    // Whether the weights are of the sides of these boxes and of this container.
+    // Whether the weights are of the sides of these boxes and of this container. Rows are compared
+    // whole, since entries beyond the dimensions are 0 in every instance.
     fn are_for(&self, instance: &Instance) -> bool
         ensures { result ≡ true → AreForInstance instance.now self.now }
     {
-        for dim in 0..instance.dims() {
-            if self.limits[dim as usize] != instance.container_side(dim) {
-                return false;
-            }
+        if !is_same_row(&self.limits, &instance.container_row()) {
+            return false;
         }
         for v in 0..instance.len() {
-            for dim in 0..instance.dims() {
-                if self.sides[v as usize][dim as usize] != instance.side(v, dim) {
-                    return false;
-                }
+            if !is_same_row(&self.sides[v as usize], &instance.side_row(v)) {
+                return false;
             }
         }
         true
@@ -253,13 +261,9 @@ impl ChainWeights {
         ensures ends { self.new.ends ≡ [] }
     {
         self.forget();
-        for dim in 0..instance.dims() {
-            self.limits[dim as usize] = instance.container_side(dim);
-        }
+        self.limits = instance.container_row();
         for v in 0..instance.len() {
-            for dim in 0..instance.dims() {
-                self.sides[v as usize][dim as usize] = instance.side(v, dim);
-            }
+            self.sides[v as usize] = instance.side_row(v);
         }
     }
 
