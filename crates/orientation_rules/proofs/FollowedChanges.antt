@@ -1,4 +1,4 @@
--- A change of the list is followed: what is known of the weights of chains, and what is pending.
+-- A change of the state is processed: the weights of chains after it, and what is pending.
 use Rattle.std.proofs.Common.{◌≡◌, ◌≢◌, ℕ, ◌+◌, ◌<◌, ◌≤◌, ◌⊎◌, inl, inr, refl, sym, ◌∙◌, arith, Bool, true}
 use Rattle.std.proofs.Common.{false, ◌||◌, eqb, List}
 use Rattle.std.proofs.lemmas.Bool.{true≢false, cases_Bool, cases_eq, or_parts, or_cases, eqb-true, eq-eqb}

@@ -4,7 +4,6 @@ use Rattle.std.proofs.Common.{false, not, ◌&&◌, eqb, ltb, List, [], ◌∷�
 use Rattle.std.proofs.lemmas.Bool.{true≢false, cases_Bool, cases_eq, eqb-true, lt-ltb, ltb-true, and_parts}
 use Rattle.std.specs.List.{sum_by}
 use Rattle.std.proofs.lemmas.List.Sums.{sum_by-cons}
-use Rattle.packing_terms.specs.declared.Exclusion.{Exclusion}
 use Rattle.packing_terms.specs.declared.Rel.TheVariants.{Before}
 use Rattle.packing_terms.specs.declared.Direction.{Direction}
 use Rattle.packing_terms.specs.declared.Direction.TheVariants.{Forwards, Backwards}
@@ -12,6 +11,7 @@ use Rattle.packing_terms.specs.Packing.{PlainInstance, dims, box_count, side}
 use Rattle.packing_terms.specs.Exclusions.{excludes}
 use Rattle.packing_terms.specs.Rules.{AreBoxesAmong}
 use Rattle.packing_terms.specs.Runs.{HasNoHeavierRun, HasRun, IsHeaviestRun, IsOneWay, IsRun, IsTransitive, Leads}
+use Rattle.packing_terms.proofs.Monotone.{open_less}
 use Rattle.packing_terms.proofs.Runs.{heaviest, run_more}
 use Rattle.edge_state.specs.BitRows.{row_has}
 use Rattle.edge_state.specs.Edges.{PlainEdges, oldest}
@@ -74,17 +74,7 @@ heaviest_settled n R w ks trans one heavy v x hv hx = record {
       let most = (heavy v hv).most run.rest run.boxes run.run in let e = run.heavy in omega (arith, most, e));
 }
 
--- what isn't excluded now wasn't by the older exclusions
-open_then : (mark : ℕ) (es : List Exclusion) (i u v : ℕ) → excludes es i u v Before ≡ false
-    → excludes (oldest mark es) i u v Before ≡ false
-open_then mark es i u v open_now = go (cases_Bool (excludes (oldest mark es) i u v Before))
-  where
-    go : (excludes (oldest mark es) i u v Before ≡ true) ⊎ (excludes (oldest mark es) i u v Before ≡ false)
-        → excludes (oldest mark es) i u v Before ≡ false
-    go (inl h) = absurd (true≢false (sym (oldest_less mark es i u v Before h) ∙ open_now))
-    go (inr h) = h
-
--- in four rows that are alone the same, each has what that has
+-- of four equal rows without members, none has a member
 pub same_rows : (r : List ℕ) (i : ℕ) → i < 4 → ((x : ℕ) → row_has r x ≡ false) → (x : ℕ)
     → row_has (risen_in (r ∷ r ∷ r ∷ r ∷ []) i) x ≡ false
 same_rows r zero l none = none
@@ -133,7 +123,8 @@ followed_begun instance s closed k p is_known held same unknown heads tails good
           fit = record {
             firsts_within = λ u on. absurd (true≢false (sym on ∙ heads i hi u));
             seconds_within = λ u on. absurd (true≢false (sym on ∙ tails i hi u));
-            fit = λ u v hu hv off calm ne open_now. it.fit u v hu hv ne (open_then closed s.trail i u v open_now);
+            fit = λ u v hu hv off calm ne open_now. it.fit u v hu hv ne
+                (open_less (excludes (oldest closed s.trail)) (excludes s.trail) (oldest_less closed s.trail) i u v Before open_now);
           };
         }
 

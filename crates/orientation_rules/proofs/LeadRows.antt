@@ -1,4 +1,4 @@
--- Rows of the boxes that a chain goes on to.
+-- Rows of successors.
 use Rattle.std.proofs.Common.{◌≡◌, ◌≢◌, ℕ, ◌<◌, ◌≤◌, ◌⊎◌, inl, inr, arith, slice_index, refl, sym, ap, subst, ◌∙◌, Bool}
 use Rattle.std.proofs.Common.{true, false, not, ◌&&◌, eqb, ltb, List}
 use Rattle.std.proofs.lemmas.Bool.{true≢false, cases_Bool, and_parts, ltb-true, eqb-true, eq-eqb}

@@ -9,4 +9,4 @@ pub mod OrderedPairs
 pub mod FollowedChanges
 pub mod KnownWeights
 mod OverLong
-pub mod HandedOn
+pub mod PropagatedWeights

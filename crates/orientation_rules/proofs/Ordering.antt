@@ -83,7 +83,7 @@ module _ (e : Exclusion) (es more : List Exclusion) (i : ℕ) (sub : IsSubset (e
             let f = grows v in
             omega (arith, h, e, f)
 
--- one change more was followed: what rose was handed on, and the pair of the change is settled
+-- one change more is processed: the raises are propagated, and the pair of the change is settled
 pub settled_next : (s : PlainEdges) (n i mark : ℕ) (direction : Direction) (w : ℕ → ℕ) (e : Exclusion) (b c : List ℕ)
     (rose : ℕ → Bool) → IsChangeAfter s.trail mark e (mark + 1)
     → ((x : ℕ) → rose x ≡ false → slice_index c x ≡ slice_index b x)
@@ -93,13 +93,13 @@ pub settled_next : (s : PlainEdges) (n i mark : ℕ) (direction : Direction) (w 
     → (e.dim ≡ i → HasNoHeavierRun (Leads (excludes s.trail) i direction) w c e.v e.u)
     → AreSettled n (Leads (excludes (oldest mark s.trail)) i direction) w b
     → AreSettled n (Leads (excludes (oldest (mark + 1) s.trail)) i direction) w c
-settled_next s n i mark direction w e b c rose change stays grows handed first second old v x hv hx =
+settled_next s n i mark direction w e b c rose change stays grows propagated first second old v x hv hx =
     go (cases_Bool (rose x))
   where
     go : (rose x ≡ true) ⊎ (rose x ≡ false)
         → HasNoHeavierRun (Leads (excludes (oldest (mark + 1) s.trail)) i direction) w c v x
     go (inl on) = record {
-      below = λ ne lead. (handed v x hv hx on).below ne
+      below = λ ne lead. (propagated v x hv hx on).below ne
           (leads_more (excludes (oldest (mark + 1) s.trail)) (excludes s.trail) i (oldest_less (mark + 1) s.trail)
           direction v x lead);
     }

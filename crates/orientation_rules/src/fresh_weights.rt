@@ -1,5 +1,5 @@
-//! Weights of the heaviest chains in one dimension, made from nothing, where a closing doesn't know
-//! them.
+//! Computes the weights of the heaviest chains in one dimension from scratch, for a closing to
+//! which they are unknown.
 ghost use Rattle.std.specs.Prelude.{◌≡◌, ◌<◌, ◌≤◌, ◌+◌, ℕ, length, [], slice_index, slice_index_or};
 ghost use Rattle.packing_terms.specs.Packing.{dims, box_count};
 ghost use Rattle.packing_terms.specs.declared.Direction.TheVariants.{Forwards, Backwards};
@@ -14,7 +14,7 @@ use box_instances::{Instance, MAX_BOXES};
 use edge_state::{ChainWeights, EdgeState};
 use packing_terms::Direction;
 
-// Writes one weight. There is memory for the raise.
+// Writes one weight. The log has memory for it.
 fn write_one(weights: &mut ChainWeights, direction: Direction, dim: u32, v: u32, weight: u64)
     requires dim { dim < 4 }
     requires v { v < 128 }
@@ -34,8 +34,8 @@ fn write_one(weights: &mut ChainWeights, direction: Direction, dim: u32, v: u32,
     weights.write(direction, dim, v, weight);
 }
 
-// Writes the weights of the first boxes of one direction in a dimension. There is memory for as
-// many raises.
+// Writes the weights of the first boxes for one direction and dimension. The log has memory for
+// them.
 fn write_weights(weights: &mut ChainWeights, direction: Direction, dim: u32, from: &[u64])
     requires dim { dim < 4 }
     requires few { length from.now ≤ 128 }
@@ -53,8 +53,8 @@ fn write_weights(weights: &mut ChainWeights, direction: Direction, dim: u32, fro
     }
 }
 
-// Writes the weights of the heaviest chains in a dimension, made from nothing in two lists with an
-// entry for each box.
+// Computes the weights of the heaviest chains in a dimension in two scratch lists with an entry for
+// each box, and writes them.
 fn weigh_in<const K: usize>(
     instance: &Instance,
     state: &EdgeState,
@@ -87,8 +87,8 @@ fn weigh_in<const K: usize>(
     write_weights(weights, Direction::Forwards, dim, tail);
 }
 
-/// Writes the weights of the heaviest chains in a dimension, made from nothing. What leads on in a
-/// chain goes one way in it, in both directions.
+/// Computes the weights of the heaviest chains in a dimension and writes them. In both directions
+/// the relation that leads from box to box goes one way there.
 #[inline(never)]
 pub(crate) fn weigh_anew<const K: usize>(
     instance: &Instance,

@@ -57,7 +57,8 @@ pub fn find_over_long<const K: usize>(
     heavier(row, weights.weights(Direction::Forwards, dim), most)
 }
 
-/// The boxes of `row` that can't be before `v`, by the same weights.
+/// The boxes of `row` that can't be before `v`: a heaviest chain that ends in such a box and one
+/// that starts in `v` are together longer than the container.
 #[inline]
 pub fn find_over_long_to<const K: usize>(
     instance: &Instance,

@@ -1,6 +1,6 @@
-//! What a closing knows of the weights of chains, and what CHAIN has still to look at.
-ghost use Rattle.std.specs.Prelude.{◌≡◌, ◌<◌, ◌≤◌, ◌+◌, ◌⊎◌, ◌&&◌, ◌||◌, ◌==◌, ℕ, not, nat_lt, true, false, length, MatchOption, IfSome};
-ghost use Rattle.packing_terms.specs.Packing.{dims, box_count};
+//! The weights of chains in a closing, and the pairs at which CHAIN isn't applied yet.
+ghost use Rattle.std.specs.Prelude.{◌≡◌, ◌<◌, ◌≤◌, ◌+◌, ◌⊎◌, ◌&&◌, ◌||◌, ◌==◌, ℕ, not, nat_lt, true, false, length, List, MatchOption, IfSome};
+ghost use Rattle.packing_terms.specs.Packing.{PlainInstance, dims, box_count};
 ghost use Rattle.packing_terms.specs.declared.Rel.{Rel as PlainRel};
 ghost use Rattle.packing_terms.specs.declared.Direction.TheVariants.{Forwards, Backwards};
 ghost use Rattle.packing_terms.specs.Exclusions.{excludes, IsSurelyBefore};
@@ -13,7 +13,7 @@ ghost use Rattle.edge_state.specs.Answers.{IsChangeAfter};
 ghost use Rattle.edge_state.specs.States.{HasRelationLeft};
 ghost use Rattle.edge_state.specs.Work.{IsUnordered};
 ghost use Rattle.edge_state.specs.ChainWeights.{weights_in};
-ghost use Rattle.orientation_rules.specs.Pending.{AreFollowed, IsOrderedPair, IsStopBelow, risen_in};
+ghost use Rattle.orientation_rules.specs.Pending.{AreFollowed, IsOrderedPair, IsOverLongAt, IsStopAt, risen_in};
 
 use crate::fresh_weights::weigh_anew;
 use crate::rising::{Risen, Stop, link};
@@ -21,9 +21,9 @@ use box_instances::Instance;
 use edge_state::{BitRow, ChainWeights, EdgeState, Exclusion, Mark, Mask};
 use std::marker::Model;
 
-/// What CHAIN has still to look at in a closing: for each dimension the boxes whose weights rose
-/// since each two boxes fitted, the dimensions whose weights aren't known, and those in which two
-/// boxes became ordered since CHAIN was looked at.
+/// What is pending for CHAIN in a closing: in each dimension the boxes whose weights rose since
+/// CHAIN was applied there; the dimensions whose weights are unknown; and the dirty ones, in which
+/// two boxes became ordered since CHAIN was applied.
 #[derive(Drop)]
 pub struct PendingChains<const K: usize> {
     heads: [BitRow<K>; 4],
@@ -49,7 +49,7 @@ impl<const K: usize> Model for PendingChains<K> {
     ghost invariant = { λ p. (length p.heads ≡ 4) × (length p.tails ≡ 4) };
 }
 
-// All dimensions, or none.
+// All dimensions if `wanted`, else none.
 fn dims_if(wanted: bool, dims: u32) -> BitRow<1>
     requires { dims ≤ 4 }
     ensures { (i : ℕ) → row_has result i ≡ (nat_lt i dims && wanted) }
@@ -63,8 +63,8 @@ fn dims_if(wanted: bool, dims: u32) -> BitRow<1>
     row
 }
 
-// The boxes of a change, the first before the second, where one of them is surely before the other
-// now. Their mask is given, and isn't empty.
+// The boxes of a change in their order, if one of them is surely before the other now. `left` is
+// their mask, which isn't empty.
 #[inline(always)]
 fn ordered_boxes(state: &EdgeState, change: Exclusion, left: Mask) -> Option<(u32, u32)>
     requires left { (r : PlainRel) → mask_has left r
@@ -82,20 +82,22 @@ fn ordered_boxes(state: &EdgeState, change: Exclusion, left: Mask) -> Option<(u3
     None
 }
 
-// The box at which raising stopped, if a chain through it is too long.
+// The box at which raising stopped, if a chain through it is over-long.
 fn box_of(stop: Stop) -> Option<u32>
-    ensures { (n : ℕ) → IsStopBelow n stop → IfSome result (λ x. x < n) }
+    ensures { (instance : PlainInstance) (i : ℕ) (numbers : List (List ℕ))
+        → IsStopAt instance i numbers stop → IfSome result (λ x. (x < box_count instance)
+        × IsOverLongAt instance i numbers x) }
 {
     match stop {
-        Stop::TooLong(x) => Some(x),
+        Stop::OverLong(x) => Some(x),
         Stop::Full => None,
     }
 }
 
 impl<const K: usize> PendingChains<K> {
-    /// Begins a closing of a state from a position of its list: it hands out the state's weights of
-    /// chains. If they aren't those of that position, CHAIN is to be looked at in all dimensions.
-    /// `stops_early` if the closing may end at a chain that it finds before CHAIN is looked at.
+    /// Begins a closing from the mark `closed` of a state, with the chain weights of the state,
+    /// which it exchanges with `weights`. If these aren't good at that mark, all dimensions are
+    /// unknown and dirty. `stops_early` says whether raising may stop at an over-long chain.
     pub fn begin(
         instance: &Instance,
         state: &mut EdgeState,
@@ -121,7 +123,7 @@ impl<const K: usize> PendingChains<K> {
         }
     }
 
-    /// A dimension in which CHAIN is to be looked at.
+    /// A dirty dimension: the first one in which CHAIN isn't applied yet.
     #[inline]
     pub fn first_dirty(&self) -> Option<u32>
         ensures { MatchOption result ((i : ℕ) → row_has self.now.dirty i ≡ false)
@@ -130,8 +132,8 @@ impl<const K: usize> PendingChains<K> {
         self.dirty.first()
     }
 
-    /// The boxes whose weights rose in a dimension, of the chains that end in each, and of those
-    /// that start there: CHAIN is to be looked at in the rows of the first and the columns of the
+    /// The boxes whose weights rose in a dimension: of the chains that end in each, and of those
+    /// that start in it. CHAIN has to be applied in the rows of the first and the columns of the
     /// second.
     #[inline]
     pub fn risen(&self, dim: u32) -> (BitRow<K>, BitRow<K>)
@@ -142,7 +144,7 @@ impl<const K: usize> PendingChains<K> {
         (self.heads[dim as usize], self.tails[dim as usize])
     }
 
-    // Adds boxes whose weights rose in a dimension.
+    // Adds the boxes whose weights rose in a dimension.
     #[inline(always)]
     fn add_risen(&mut self, dim: u32, risen: Risen<K>)
         requires width { IsRowWidth K }
@@ -163,10 +165,9 @@ impl<const K: usize> PendingChains<K> {
         self.tails[dim as usize] = tails.or(risen.tails);
     }
 
-    /// Follows a change of the state's list, the one behind a position: where it orders its two
-    /// boxes, weights rise. The mask that is left of them now is given, and isn't empty. Answers a
-    /// box through which a chain is too long by its weights, if one is found; the weights of that
-    /// dimension aren't known then.
+    /// Processes the change after `mark`: if it orders its two boxes, weights of chains rise.
+    /// `left` is their mask now, which isn't empty. Returns a box through which a chain is
+    /// over-long by its weights, if one is found; the weights of that dimension are unknown then.
     #[inline(always)]
     pub fn follow(
         &mut self,
@@ -194,7 +195,8 @@ impl<const K: usize> PendingChains<K> {
             → IsUnordered (excludes state.now.trail) change }
         ensures within { (i : ℕ) → row_has self.new.dirty i ≡ true → (i ≡ change.dim)
             ⊎ (row_has self.old.dirty i ≡ true) }
-        ensures found { IfSome result (λ x. x < box_count instance.now) }
+        ensures found { IfSome result (λ x. (x < box_count instance.now)
+            × IsOverLongAt instance.now change.dim weights.new.numbers x) }
     {
         // For the proof alone: states the limits of the state.
         let _sizes = state.dims();
@@ -218,8 +220,8 @@ impl<const K: usize> PendingChains<K> {
         }
     }
 
-    // The weights of a dimension are known now: all boxes are ones whose heads may have risen, so
-    // that CHAIN is looked at in all rows.
+    // Marks the weights of a dimension as known. All heads count as risen, so that CHAIN is applied
+    // in all rows.
     fn set_known(&mut self, dim: u32, all: BitRow<K>)
         requires width { IsRowWidth K }
         requires dim { dim < 4 }
@@ -237,8 +239,8 @@ impl<const K: usize> PendingChains<K> {
         self.tails[dim as usize] = BitRow::empty();
     }
 
-    /// Makes the weights of a dimension known: those of the heaviest chains of the state. All
-    /// changes of its list were followed, no mask is empty, and surely before is transitive in this
+    /// Computes the weights of the heaviest chains in a dimension, if they are unknown. All changes
+    /// of the state are processed, no mask is empty, and surely before is transitive in this
     /// dimension, as COMPOSE makes it. `all` has all boxes.
     pub fn weigh(
         &mut self,
@@ -275,7 +277,7 @@ impl<const K: usize> PendingChains<K> {
         }
     }
 
-    /// CHAIN was looked at in a dimension, so that each two boxes fit in it.
+    /// Marks CHAIN as applied in a dimension: any two boxes fit in it.
     #[inline]
     pub fn settle(&mut self, dim: u32)
         requires width { IsRowWidth K }

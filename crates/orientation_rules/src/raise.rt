@@ -11,7 +11,7 @@ use box_instances::Instance;
 use edge_state::{BitRow, EdgeState};
 use packing_terms::Direction;
 
-// Raises the weight of v, whose own side is given, to that of a chain which goes on to x, where
+// Raises the weight of `v`, whose own side is `own`, to that of a chain with the successor `x`, if
 // that is more.
 #[inline(always)]
 pub(crate) fn raise_by(
@@ -81,7 +81,7 @@ pub(crate) fn raise_along<const K: usize>(
     changed
 }
 
-// Raises the weight of v by each box that a chain of it goes on to.
+// Raises the weight of `v` by each of its successors.
 fn raise_from<const K: usize>(
     instance: &Instance,
     state: &EdgeState,

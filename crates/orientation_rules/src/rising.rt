@@ -1,8 +1,8 @@
-//! Weights of chains that rise: two boxes become ordered, and what rises is propagated to the boxes
-//! whose chains go on to it.
+//! Raises the weights of chains when two boxes become ordered, and propagates the raises to
+//! predecessors.
 //!
-//! In the midst of a closing surely before isn't transitive yet, so these are weights of walks.
-//! Each weight is raised once or a few times, and a log of the old ones takes it back.
+//! Within a worklist surely before isn't transitive yet, so these are weights of walks. A log of
+//! the old weights takes the raises back.
 ghost use Rattle.std.specs.Prelude.{◌≡◌, ◌<◌, ◌≤◌, ◌+◌, ℕ, nat_lt, true, false, length, slice_index, slice_index_or, List, [], IfOk, IfErr};
 ghost use Rattle.packing_terms.specs.Packing.{dims, box_count, side};
 ghost use Rattle.packing_terms.specs.Exclusions.{excludes, IsSurelyBefore};
@@ -11,24 +11,23 @@ ghost use Rattle.packing_terms.specs.declared.Direction.TheVariants.{Forwards, B
 ghost use Rattle.packing_terms.specs.Runs.{HasNoHeavierRun, Leads};
 ghost use Rattle.edge_state.specs.BitRows.{row_has, HoldsBoxes};
 ghost use Rattle.edge_state.specs.ChainWeights.{IsSameHistory, AreWalks, IsWalk, list_number, weights_in};
-ghost use Rattle.orientation_rules.specs.Pending.{AreLinked, AreLinkedBy, IsStopBelow, OtherDimsStay};
+ghost use Rattle.orientation_rules.specs.Pending.{AreLinked, AreLinkedBy, IsOverLongAt, IsStopAt, OtherDimsStay};
 ghost use Rattle.orientation_rules.specs.Raises.{AreRaised, raises_left};
 
 use box_instances::Instance;
 use edge_state::{BitRow, ChainWeights, EdgeState, Rel};
 use packing_terms::Direction;
 
-/// Why raising stopped: a chain through this box is too long by its weights; or no more raises are
-/// kept.
+/// Why raising stopped: a chain through this box is over-long by its weights, or the log is full.
 #[derive(Clone, Copy, Debug, PartialEq, Eq)]
 pub(crate) enum Stop {
-    TooLong(u32),
+    OverLong(u32),
     Full,
 }
 
-// The boxes whose chains go on to x.
+// The predecessors of `x`: the boxes that lead to it in a direction.
 #[inline(always)]
-fn leader_row<const K: usize>(
+fn predecessor_row<const K: usize>(
     state: &EdgeState,
     all: BitRow<K>,
     dim: u32,
@@ -53,13 +52,15 @@ fn leader_row<const K: usize>(
     all.minus(near).minus(back).without(x)
 }
 
-// Whether a chain through a box is longer than the container by its weights in both directions: its
-// own side counts in both.
+// Whether a chain through `v` is over-long by the weights of both directions. Its own side counts
+// in both.
 #[inline(always)]
-fn is_too_long(instance: &Instance, weights: &ChainWeights, dim: u32, v: u32) -> bool
+fn is_over_long(instance: &Instance, weights: &ChainWeights, dim: u32, v: u32) -> bool
     requires limits { IsInternalInstance instance.now }
     requires dim { dim < dims instance.now }
     requires v { v < box_count instance.now }
+    ensures over { result ≡ true → IsOverLongAt instance.now dim weights.now.numbers v }
+    ensures within { result ≡ false → IsOverLongAt instance.now dim weights.now.numbers v → ⊥ }
 {
     let head = weights.weights(Direction::Backwards, dim)[v as usize];
     let tail = weights.weights(Direction::Forwards, dim)[v as usize];
@@ -67,7 +68,7 @@ fn is_too_long(instance: &Instance, weights: &ChainWeights, dim: u32, v: u32) ->
     head + tail > limit + u64::from(instance.side(v, dim))
 }
 
-// Raises the weight of v to that of a walk, where that is more, and then adds v to both rows.
+// Raises the weight of `v` to that of a walk, if that is more, and then adds `v` to both rows.
 #[inline(always)]
 fn raise_to<const K: usize>(
     instance: &Instance,
@@ -102,7 +103,7 @@ fn raise_to<const K: usize>(
         ≤ slice_index (weights_in weights.new.numbers direction dim) v) }
     ensures fewer { IfOk result (λ _. raises_left K (length weights.new.log) rest.new
         ≤ raises_left K (length weights.old.log) rest.old) }
-    ensures stop { IfErr result (λ stop. IsStopBelow state.now.boxes stop) }
+    ensures stop { IfErr result (λ stop. IsStopAt instance.now dim weights.new.numbers stop) }
 {
     if weight <= weights.weights(direction, dim)[v as usize] {
         return Ok(());
@@ -112,15 +113,15 @@ fn raise_to<const K: usize>(
     }
     *rest = rest.with(v);
     *risen = risen.with(v);
-    if stops_early && is_too_long(instance, weights, dim, v) {
-        return Err(Stop::TooLong(v));
+    if stops_early && is_over_long(instance, weights, dim, v) {
+        return Err(Stop::OverLong(v));
     }
     Ok(())
 }
 
-// Raises the boxes whose chains go on to x, each by the weight of x.
+// Raises the predecessors of `x` by the weight of `x`.
 #[inline(always)]
-fn hand_on_from<const K: usize>(
+fn propagate_from<const K: usize>(
     instance: &Instance,
     state: &EdgeState,
     all: BitRow<K>,
@@ -152,10 +153,10 @@ fn hand_on_from<const K: usize>(
         (λ u. side instance.now u dim) (weights_in weights.new.numbers direction dim) v x) }
     ensures fewer { IfOk result (λ _. raises_left K (length weights.new.log) rest.new
         ≤ raises_left K (length weights.old.log) rest.old) }
-    ensures stop { IfErr result (λ stop. IsStopBelow state.now.boxes stop) }
+    ensures stop { IfErr result (λ stop. IsStopAt instance.now dim weights.new.numbers stop) }
 {
     let from = weights.weights(direction, dim)[x as usize];
-    let mut row = leader_row(state, all, dim, direction, x);
+    let mut row = predecessor_row(state, all, dim, direction, x);
     while let Some(v) = row.first() {
         row = row.without(v);
         let weight = from + u64::from(instance.side(v, dim));
@@ -175,10 +176,10 @@ fn hand_on_from<const K: usize>(
     Ok(())
 }
 
-// Raises the weight of v to that of a walk, and propagates what rises: a box is raised again
-// whenever a heavier walk is found. Returns the boxes whose weights rose.
+// Raises the weight of `v` to that of a walk, and propagates the raises until no predecessor rises.
+// Returns the boxes whose weights rose. A box may rise more than once.
 #[inline(always)]
-fn raise_and_hand_on<const K: usize>(
+fn raise_and_propagate<const K: usize>(
     instance: &Instance,
     state: &EdgeState,
     all: BitRow<K>,
@@ -210,7 +211,7 @@ fn raise_and_hand_on<const K: usize>(
         ≤ weight
         → AreLinkedBy instance.now state.now dim direction v x
         weights.old.numbers weights.new.numbers risen) }
-    ensures stop { IfErr result (λ stop. IsStopBelow state.now.boxes stop) }
+    ensures stop { IfErr result (λ stop. IsStopAt instance.now dim weights.new.numbers stop) }
 {
     let mut risen = BitRow::empty();
     let mut rest = BitRow::empty();
@@ -227,7 +228,7 @@ fn raise_and_hand_on<const K: usize>(
         weights,
     )?;
     while let Some(x) = rest.first() {
-        hand_on_from(
+        propagate_from(
             instance,
             state,
             all,
@@ -244,7 +245,8 @@ fn raise_and_hand_on<const K: usize>(
     Ok(risen)
 }
 
-// Raises the weight of v by that of x, to which its chains go on now.
+// Raises the weight of `v` by that of its new successor `x`, and propagates the raises. Returns the
+// boxes whose weights rose.
 #[inline(always)]
 fn link_one<const K: usize>(
     instance: &Instance,
@@ -275,13 +277,13 @@ fn link_one<const K: usize>(
         weights.old.numbers weights.new.numbers risen) }
     ensures other { (list : ℕ) → (list ≡ list_number direction dim → ⊥)
         → slice_index_or weights.new.numbers list [] ≡ slice_index_or weights.old.numbers list [] }
-    ensures stop { IfErr result (λ stop. IsStopBelow state.now.boxes stop) }
+    ensures stop { IfErr result (λ stop. IsStopAt instance.now dim weights.new.numbers stop) }
 {
     let weight = weights.weights(direction, dim)[x as usize] + u64::from(instance.side(v, dim));
     if weight <= weights.weights(direction, dim)[v as usize] {
         return Ok(BitRow::empty());
     }
-    raise_and_hand_on(
+    raise_and_propagate(
         instance,
         state,
         all,
@@ -294,14 +296,14 @@ fn link_one<const K: usize>(
     )
 }
 
-/// Boxes whose weights rose: those of the chains that end in each, and that start there.
+/// The boxes whose weights rose: of the chains that end in each (`heads`), and that start in it.
 #[derive(Clone, Copy)]
 pub(crate) struct Risen<const K: usize> {
     pub heads: BitRow<K>,
     pub tails: BitRow<K>,
 }
 
-/// Raises the weights of chains where box `a` is surely before box `b` now.
+/// Raises the weights of chains in both directions after `a` became surely before `b`.
 #[inline(always)]
 pub(crate) fn link<const K: usize>(
     instance: &Instance,
@@ -332,7 +334,7 @@ pub(crate) fn link<const K: usize>(
     ensures dims { OtherDimsStay dim weights.old.numbers weights.new.numbers }
     ensures linked { IfOk result (λ risen. AreLinked instance.now state.now dim a b
         weights.old.numbers weights.new.numbers risen.heads risen.tails) }
-    ensures stop { IfErr result (λ stop. IsStopBelow state.now.boxes stop) }
+    ensures stop { IfErr result (λ stop. IsStopAt instance.now dim weights.new.numbers stop) }
 {
     // For the proof alone: states the limits of the instance.
     let _count = instance.len();

@@ -1,6 +1,6 @@
 use Rattle.std.proofs.Common.{◌≡◌, ◌∙◌, sym, ap, [], length, slice_index_or}
 use Rattle.edge_state.specs.ChainWeights.{list_number}
-use Rattle.orientation_rules.proofs.HandedOn.{written_beside, written_here, written_other}
+use Rattle.orientation_rules.proofs.PropagatedWeights.{written_beside, written_here, written_other}
 use Rattle.orientation_rules.proofs.FollowedChanges.{written_if}
 use Rattle.orientation_rules.proofs.fresh_weights.write_one.Goals as goal
 

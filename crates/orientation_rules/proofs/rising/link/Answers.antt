@@ -4,7 +4,7 @@ use Rattle.packing_terms.specs.Packing.{box_count, side}
 use Rattle.packing_terms.specs.Exclusions.{excludes}
 use Rattle.packing_terms.specs.Runs.{Leads}
 use Rattle.edge_state.specs.ChainWeights.{AreWalks, list_number, weights_in}
-use Rattle.orientation_rules.proofs.HandedOn.{linked_same}
+use Rattle.orientation_rules.proofs.PropagatedWeights.{linked_same}
 use Rattle.orientation_rules.proofs.rising.link.Goals as goal
 
 pub link_one-requires-2 : goal.link_one-requires-2

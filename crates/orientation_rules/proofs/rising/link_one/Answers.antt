@@ -3,11 +3,11 @@ use Rattle.packing_terms.specs.Packing.{box_count, side}
 use Rattle.packing_terms.specs.Exclusions.{excludes}
 use Rattle.packing_terms.specs.Runs.{Leads}
 use Rattle.edge_state.specs.ChainWeights.{weights_in}
-use Rattle.orientation_rules.proofs.HandedOn.{walk_by}
+use Rattle.orientation_rules.proofs.PropagatedWeights.{walk_by}
 use Rattle.orientation_rules.proofs.rising.link_one.Goals as goal
 
-pub raise_and_hand_on-requires : goal.raise_and_hand_on-requires
-raise_and_hand_on-requires g c =
+pub raise_and_propagate-requires : goal.raise_and_propagate-requires
+raise_and_propagate-requires g c =
     let n = box_count c.args.instance.now in
     let R = Leads (excludes c.args.state.now.trail) c.args.dim c.args.direction in
     let w = λ (u : ℕ). side c.args.instance.now u c.args.dim in

@@ -1,6 +1,6 @@
 use Rattle.std.proofs.Common.{◌≡◌, ◌<◌, ◌≤◌, ◌∙◌, sym, ap, arith, [], length, slice_index, slice_index_or}
 use Rattle.edge_state.specs.ChainWeights.{list_number, weights_in}
-use Rattle.orientation_rules.proofs.HandedOn.{raise_fewer, raised_one, written_beside, written_here}
+use Rattle.orientation_rules.proofs.PropagatedWeights.{raise_fewer, raised_one, written_beside, written_here}
 use Rattle.orientation_rules.proofs.rising.raise_to.Goals as goal
 
 pub returns-clause-raised : goal.returns-clause-raised

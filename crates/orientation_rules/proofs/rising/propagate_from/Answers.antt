@@ -5,8 +5,8 @@ use Rattle.packing_terms.specs.Runs.{Leads}
 use Rattle.edge_state.specs.BitRows.{row_has}
 use Rattle.edge_state.specs.ChainWeights.{weights_in}
 use Rattle.edge_state.proofs.RowBits.{members_fewer}
-use Rattle.orientation_rules.proofs.HandedOn.{history_next, least_trans, led_next, left_part, raised_next, walk_by}
-use Rattle.orientation_rules.proofs.rising.hand_on_from.Goals as goal
+use Rattle.orientation_rules.proofs.PropagatedWeights.{history_next, least_trans, led_next, left_part, raised_next, walk_by}
+use Rattle.orientation_rules.proofs.rising.propagate_from.Goals as goal
 
 pub raise_to-requires : goal.raise_to-requires
 raise_to-requires g c =

@@ -2,7 +2,7 @@ use Rattle.std.proofs.Common.{◌≤◌, length, slice_index}
 use Rattle.edge_state.specs.ChainWeights.{IsSameHistory, weights_in}
 use Rattle.orientation_rules.specs.Pending.{AreRising}
 use Rattle.orientation_rules.specs.Raises.{raises_left}
-use Rattle.orientation_rules.proofs.rising.raise_and_hand_on.Given as goal
+use Rattle.orientation_rules.proofs.rising.raise_and_propagate.Given as goal
 
 abbrev pub invariant-loop-x : goal.invariant-loop-x
 invariant-loop-x g l = record {

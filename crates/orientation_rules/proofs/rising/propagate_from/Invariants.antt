@@ -5,7 +5,7 @@ use Rattle.packing_terms.specs.Runs.{HasNoHeavierRun, Leads}
 use Rattle.edge_state.specs.BitRows.{members_below, row_has}
 use Rattle.edge_state.specs.ChainWeights.{IsSameHistory, list_number, weights_in}
 use Rattle.orientation_rules.specs.Raises.{AreRaised, raises_left}
-use Rattle.orientation_rules.proofs.rising.hand_on_from.Given as goal
+use Rattle.orientation_rules.proofs.rising.propagate_from.Given as goal
 
 abbrev pub invariant-loop-v : goal.invariant-loop-v
 invariant-loop-v g l = record {

@@ -1,5 +1,4 @@
--- Weights of one direction that rise, and are propagated to the boxes whose chains go on to those
--- that rose.
+-- Weights of one direction that rise, and whose raises are propagated to predecessors.
 use Rattle.std.proofs.Common.{◌≡◌, ◌≢◌, ℕ, ◌+◌, ◌-◌, ◌*◌, ◌<◌, ◌≤◌, ◌⊎◌, inl, inr, refl, sym, ap, subst, ◌∙◌, arith, Bool}
 use Rattle.std.proofs.Common.{true, false, not, ◌&&◌, ◌||◌, eqb, ltb, List, [], length, slice_index, slice_index_or}
 use Rattle.std.proofs.lemmas.Bool.{true≢false, cases_Bool, cases_eq, cases_lt, or_parts, or_cases, or_left, or_right, and_parts, eqb-true, eq-eqb, lt-ltb, ltb-true}
@@ -48,7 +47,7 @@ off_left before left v less x ne off = go (and_false _ _ (sym (less x) ∙ off))
     go (inl h) = h
     go (inr h) = absurd (ne (eqb-true x v (not_false _ h)))
 
--- The row of leaders: the boxes other than x to which x neither overlaps nor is related by `behind`.
+-- The row of predecessors: the boxes other than x to which x neither overlaps nor is related by `behind`.
 module _ (n i x : ℕ) (es : List Exclusion) (behind : Rel) (all near back first second left : ℕ → Bool)
     (boxes : (u : ℕ) → all u ≡ ltb u n)
     (near_is : (u : ℕ) → near u ≡ is_other_box n x u && not (excludes es i x u Overlap))
@@ -70,9 +69,9 @@ module _ (n i x : ℕ) (es : List Exclusion) (behind : Rel) (all near back first
   unread true s false e h = e
   unread false s o e h = absurd (true≢false (sym h))
 
-  pub leader : (u : ℕ) → left u ≡ true
+  pub predecessor : (u : ℕ) → left u ≡ true
       → (u < n) × (u ≡ x → ⊥) × (excludes es i x u Overlap ≡ true) × (excludes es i x u behind ≡ true)
-  leader u on =
+  predecessor u on =
       let outer = and_parts _ _ (sym (left_is u) ∙ on) in
       let inner = and_parts _ _ (sym (second_is u) ∙ outer.0) in
       let most = and_parts _ _ (sym (first_is u) ∙ inner.0) in
@@ -85,9 +84,9 @@ module _ (n i x : ℕ) (es : List Exclusion) (behind : Rel) (all near back first
         shut (excludes es i x u behind) (back u) _ o (back_is u) (not_of _ inner.1),
       )
 
-  pub no_leader : (u : ℕ) → u < n → left u ≡ false → (u ≡ x → ⊥) → excludes es i x u Overlap ≡ true
+  pub no_predecessor : (u : ℕ) → u < n → left u ≡ false → (u ≡ x → ⊥) → excludes es i x u Overlap ≡ true
       → excludes es i x u behind ≡ true → ⊥
-  no_leader u small off ne f g =
+  no_predecessor u small off ne f g =
       let a : all u ≡ true = boxes u ∙ lt-ltb u n small in
       let p : near u ≡ false = unread (excludes es i x u Overlap) _ _ (near_is u) f in
       let q : back u ≡ false = unread (excludes es i x u behind) _ _ (back_is u) g in
@@ -95,7 +94,7 @@ module _ (n i x : ℕ) (es : List Exclusion) (behind : Rel) (all near back first
       let d : second u ≡ true = second_is u ∙ rw (e, q) refl in
       true≢false (sym (left_is u ∙ rw (d, eqb_false u x ne) refl) ∙ off)
 
--- two relations of x and v are excluded exactly where a chain of v goes on to x
+-- x is a successor of v exactly if two relations of x and v are excluded
 pub leads_on : (es : List Exclusion) (i v x : ℕ) → excludes es i x v Overlap ≡ true → excludes es i x v Before ≡ true
     → Leads (excludes es) i Forwards v x
 leads_on es i v x near back = (excludes_symmetric es i x v Overlap near, excludes_symmetric es i x v Before back)
