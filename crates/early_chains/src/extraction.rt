@@ -1,5 +1,5 @@
-//! A chain that is thought to be too long: it is read off from the box through which it goes, and
-//! looked at box by box before it counts.
+//! Traces a chain through a box by the weights of chains. `find_long_chain` then verifies it box by
+//! box.
 ghost use Rattle.std.specs.Prelude.{◌≡◌, ◌<◌, IfSome, length};
 ghost use Rattle.packing_terms.specs.Packing.{box_count};
 ghost use Rattle.packing_terms.specs.Exclusions.{excludes};
@@ -12,7 +12,7 @@ use box_instances::Instance;
 use edge_state::{BitRow, ChainWeights, EdgeState, Rel};
 use packing_terms::Direction;
 
-// The boxes that a chain of x goes on to.
+// The successors of `x` in a direction.
 #[inline]
 fn next_boxes<const K: usize>(
     state: &EdgeState,
@@ -33,7 +33,7 @@ fn next_boxes<const K: usize>(
     }
 }
 
-// The box from which the weight of x comes: behind it, or before it.
+// The successor that accounts for the weight of `x`, in a direction.
 fn next_of<const K: usize>(
     instance: &Instance,
     state: &EdgeState,
@@ -62,8 +62,8 @@ fn next_of<const K: usize>(
     None
 }
 
-// Writes the boxes of a chain from x on, outwards from the middle of the list: those before it
-// above, those behind it below. Answers where the last of them stands.
+// Writes the boxes of a chain from `x` on, outwards from the middle of the list: boxes before `x`
+// at higher indices, boxes after it at lower ones. Returns the index of the last box.
 fn trace_chain<const K: usize>(
     instance: &Instance,
     state: &EdgeState,
@@ -96,8 +96,8 @@ fn trace_chain<const K: usize>(
     place
 }
 
-/// The first two boxes of a chain that is too long, where one through `x` is found: `weights` says
-/// that there is one.
+/// Looks for an over-long chain through `x`, at which the weights claim one, and returns its first
+/// two boxes. `None` if the chain that the weights lead along isn't over-long.
 #[inline(never)]
 pub fn find_chain<const K: usize>(
     instance: &Instance,

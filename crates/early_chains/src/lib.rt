@@ -1,5 +1,5 @@
-//! Chains that are too long, found while a closing goes on: read off from weights of chains, and
-//! looked at box by box before they count.
+//! Early detection of over-long chains in a closing: a chain is traced by the weights of
+//! chains, and verified box by box before it counts.
 #![tactic(auto)]
 
 mod extraction;

@@ -1,4 +1,4 @@
-//! CHAIN at a given chain: each step of it is looked at, so it may come from anywhere.
+//! CHAIN at a given chain. Each step of the chain is verified, so it may come from anywhere.
 ghost use Rattle.std.specs.Prelude.{◌≡◌, ◌<◌, ◌≤◌, IfSome, length};
 ghost use Rattle.packing_terms.specs.Packing.{dims, box_count};
 ghost use Rattle.packing_terms.specs.Exclusions.{excludes};
@@ -12,7 +12,7 @@ use box_instances::Instance;
 use edge_state::{BitRow, EdgeState, Mask, Rel};
 use orientation_rules::keep_only;
 
-// The box that a chain of these boxes starts in, and the chain's weight; none where they are no
+// The box that a chain of these boxes starts in, and the chain's weight. `None` if they are no
 // chain. They are listed from the chain's last box on.
 fn check_chain<const K: usize>(
     instance: &Instance,
@@ -92,7 +92,7 @@ pub(crate) fn find_long_chain<const K: usize>(
     Some((u, v))
 }
 
-/// CHAIN at the first two boxes of a chain that is too long: it leaves their mask empty.
+/// CHAIN at the first two boxes of an over-long chain: it leaves their mask empty.
 pub fn apply_long_chain(instance: &Instance, state: &mut EdgeState, dim: u32, u: u32, v: u32)
     requires sizes { IsSized instance.now state.old dim }
     requires long { IsTooLong instance.now (excludes state.old.trail) dim u v }

@@ -1,16 +1,14 @@
--- What is known of the weights of chains while a closing goes on: it stays known where exclusions
--- come on top, CHAIN makes more of it known, and at the end the weights are good.
+-- The weights of chains in a closing: they stay walks when exclusions are added, two boxes fit after
+-- CHAIN, and at the end the weights are good.
 use Rattle.std.proofs.Common.{◌≡◌, ℕ, ◌+◌, ◌<◌, ◌≤◌, ◌⊎◌, inl, inr, refl, sym, ap, ◌∙◌, subst, arith, true, false, not}
 use Rattle.std.proofs.Common.{◌&&◌, eqb, List, [], ◌∷◌, ◌++◌, length}
 use Rattle.std.proofs.lemmas.Bool.{true≢false, cases_eq, and_parts}
 use Rattle.packing_terms.specs.declared.Rel.{Rel}
 use Rattle.packing_terms.specs.declared.Rel.TheVariants.{Overlap, Before, After}
-use Rattle.packing_terms.specs.declared.Direction.{Direction}
 use Rattle.packing_terms.specs.declared.Direction.TheVariants.{Forwards, Backwards}
 use Rattle.packing_terms.specs.declared.Exclusion.{Exclusion}
 use Rattle.packing_terms.specs.Packing.{PlainInstance, dims, box_count, side, container_side}
 use Rattle.packing_terms.specs.Exclusions.{Exclusions, excludes, IsEdge}
-use Rattle.packing_terms.specs.Closure.{IsSubset}
 use Rattle.packing_terms.specs.Applied.{Extends}
 use Rattle.packing_terms.specs.Runs.{Leads}
 use Rattle.packing_terms.proofs.Monotone.{open_less}
@@ -18,9 +16,11 @@ use Rattle.relation_table.specs.Masks.{mask_has}
 use Rattle.edge_state.specs.BitRows.{row_has}
 use Rattle.edge_state.specs.Edges.{PlainEdges}
 use Rattle.edge_state.specs.States.{HasRelationLeft}
-use Rattle.edge_state.specs.ChainWeights.{IsWalk, alone, further, AreSettled, AreOf, AreGoodFor, FitsBefore, PlainWeights, weights_in}
+use Rattle.edge_state.specs.ChainWeights.{AreSettled, AreOf, AreGoodFor, FitsBefore, PlainWeights, weights_in}
 use Rattle.edge_state.proofs.Oldest.{oldest_grown, oldest_all}
 use Rattle.edge_state.proofs.Histories.{of_more}
+use Rattle.orientation_rules.proofs.Ordering.{leads_more}
+use Rattle.orientation_rules.proofs.KnownWeights.{walk_more}
 use Rattle.rule_passes.proofs.Members.{off_left}
 use Rattle.orientation_rules.specs.Pending.{AreFollowed, AreHeld, IsCalm, IsLiveIn, PlainPending, risen_in}
 
@@ -28,19 +28,6 @@ use Rattle.orientation_rules.specs.Pending.{AreFollowed, AreHeld, IsCalm, IsLive
 of_grown : (d n : ℕ) (more es : List Exclusion) (k : PlainWeights) → AreOf d n es k → AreOf d n (more ++ es) k
 of_grown d n [] es k h = h
 of_grown d n (e ∷ more) es k h = of_more d n e (more ++ es) k (of_grown d n more es k h)
-
--- what leads on by fewer exclusions does so by more
-leads_more : (X Y : Exclusions) → IsSubset X Y → (i : ℕ) (direction : Direction) (u v : ℕ) → Leads X i direction u v
-    → Leads Y i direction u v
-leads_more X Y more i Forwards u v h = (more i u v Overlap h.0, more i u v After h.1)
-leads_more X Y more i Backwards u v h = (more i v u Overlap h.0, more i v u After h.1)
-
--- a walk along one relation is one along each wider relation
-walk_more : (n : ℕ) (R S : ℕ → ℕ → Type 0) (w : ℕ → ℕ) → ((u v : ℕ) → R u v → S u v) → (v k : ℕ) → IsWalk n R w v k
-    → IsWalk n S w v k
-walk_more n R S w wider _ _ (alone v l) = alone v l
-walk_more n R S w wider _ _ (further v x j l ne r rest) =
-    further v x j l ne (wider v x r) (walk_more n R S w wider x j rest)
 
 -- some relation is left, so the mask isn't empty
 pub some_left : (instance : PlainInstance) (X : Exclusions) (i u v left : ℕ) → IsEdge instance i u v
@@ -73,7 +60,7 @@ module _ (instance : PlainInstance) (s t : PlainEdges) (more : Extends instance 
       → IsLiveIn instance s mark i numbers heads tails → IsLiveIn instance t mark i numbers heads tails
   live_in mark i numbers heads tails l h = record {
     walks = λ direction v hv. walk_more (box_count instance) _ _ _
-        (leads_more (excludes s.trail) (excludes t.trail) more.kept i direction) v _ (h.walks direction v hv);
+        (leads_more (excludes s.trail) (excludes t.trail) i more.kept direction) v _ (h.walks direction v hv);
     settled = λ direction. subst
         (λ (es : List Exclusion). AreSettled (box_count instance) (Leads (excludes es) i direction)
         (λ u. side instance u i) (weights_in numbers direction i))
@@ -85,7 +72,7 @@ module _ (instance : PlainInstance) (s t : PlainEdges) (more : Extends instance 
     };
   }
 
-  -- the same changes stay followed
+  -- changes that are processed stay so with more exclusions
   pub followed_grown : (mark : ℕ) (k : PlainWeights) (p : PlainPending) → mark ≤ length s.trail
       → AreFollowed instance s mark k p → AreFollowed instance t mark k p
   followed_grown mark k p l h = record {
@@ -95,7 +82,7 @@ module _ (instance : PlainInstance) (s t : PlainEdges) (more : Extends instance 
     within = h.within;
   }
 
-  -- CHAIN was looked at in a dimension: each two boxes fit in it, and what rose there is settled
+  -- CHAIN was applied in a dimension: each two boxes fit in it, and no raise is pending there
   pub followed_after : (dim : ℕ) (k : PlainWeights) (p q : PlainPending)
       → AreFollowed instance s (length s.trail) k p → row_has p.unknown dim ≡ false
       → ((u v : ℕ) → u < box_count instance → v < box_count instance
@@ -146,7 +133,7 @@ module _ (instance : PlainInstance) (s t : PlainEdges) (more : Extends instance 
             tails = λ u. ap (λ (z : List ℕ). row_has z u) rows.1 ∙ old.tails u;
           }
 
--- one change more was followed, and exclusions came on top
+-- one change more is processed, and exclusions were added
 pub followed_step : (instance : PlainInstance) (s m t : PlainEdges) (mark next : ℕ) (k : PlainWeights) (p : PlainPending)
     → m ≡ s → Extends instance m.trail t.trail → mark < length s.trail → next ≡ mark + 1
     → AreFollowed instance m (mark + 1) k p → AreFollowed instance t next k p
@@ -154,7 +141,7 @@ followed_step instance s m t mark next k p same more before e h =
     rw e (followed_grown instance m t more (mark + 1) k p
     (omega (arith, before, ap (λ (z : PlainEdges). length z.trail) same)) h)
 
--- all changes were followed, and CHAIN isn't to be looked at in any dimension: the weights are good
+-- all changes are processed, and CHAIN is applied in every dimension: the weights are good
 pub good_at_end : (instance : PlainInstance) (s : PlainEdges) (k : PlainWeights) (p : PlainPending)
     → AreFollowed instance s (length s.trail) k p → ((i : ℕ) → row_has p.dirty i ≡ false)
     → AreGoodFor instance (excludes s.trail) k.numbers

@@ -147,12 +147,12 @@ fn shut_columns<const K: usize>(
     false
 }
 
-/// CHAIN in one dimension, where two boxes became ordered, by the weights of the heaviest chains.
-/// Answers whether a mask is empty; it stops there. Surely before is transitive in this dimension,
-/// and no mask is empty at first. All changes of the list were followed. `all` has all boxes.
+/// Applies CHAIN in one dimension by the weights of the heaviest chains. Returns whether a mask is
+/// empty, at which it stops. Surely before is transitive in this dimension, no mask is empty at
+/// first, and all changes of the state are processed. `all` has all boxes.
 ///
-/// Mostly a few weights rose since each two boxes fitted. So only the rows of boxes whose heads
-/// rose and the columns of boxes whose tails rose are looked at.
+/// Mostly few weights rose since CHAIN was applied. So it visits the rows of boxes whose heads rose
+/// and the columns of boxes whose tails rose alone.
 pub(crate) fn propagate_chains<const K: usize>(
     instance: &Instance,
     state: &mut EdgeState,

@@ -1,4 +1,4 @@
-//! A closing: what changed is looked through until nothing is left or a mask is empty.
+//! A closing: runs the rules to a fixpoint, or to an empty mask.
 ghost use Rattle.std.specs.Prelude.{◌≡◌, ◌<◌, ◌≤◌, ◌-◌, ℕ, false, nat_lt, length, drop, MatchBool};
 ghost use Rattle.packing_terms.specs.Packing.{dims, box_count};
 ghost use Rattle.packing_terms.specs.Exclusions.{excludes};
@@ -18,9 +18,9 @@ use box_instances::Instance;
 use edge_state::{BitRow, ChainWeights, EdgeState, Mark};
 use orientation_rules::PendingChains;
 
-// Goes along what changed after a position of the list, then over CHAIN in the dimensions where
-// two boxes became ordered, and again along what that changed, until nothing is left or a mask is
-// empty, which the answer shows.
+// Drains the worklist after `closed`, applies CHAIN in a dirty dimension, drains the worklist of
+// what that excluded, and so on until no dimension is dirty. Returns whether a mask is empty, at
+// which it ends at once.
 fn run_to_fixpoint<const K: usize>(
     instance: &Instance,
     state: &mut EdgeState,
@@ -65,10 +65,9 @@ fn run_to_fixpoint<const K: usize>(
     false
 }
 
-/// Closes a state from a position of its list, with rows of as many words as hold all boxes, and
-/// answers whether a mask is empty. In between `weights` changes places with the weights of chains
-/// that the state keeps. `stops_early` if a chain that is found to be too long may end it before
-/// CHAIN is looked at.
+/// Closes a state from the mark `closed` on, with rows of as many words as hold all boxes. Returns
+/// whether a mask is empty. Meanwhile the chain weights of the state are in `weights`.
+/// `stops_early` says whether an over-long chain may end the closing before CHAIN is applied.
 pub(crate) fn close_in<const K: usize>(
     instance: &Instance,
     state: &mut EdgeState,

@@ -1,8 +1,8 @@
-//! All that follows from a changed edge: the instances of the rules that read its mask, in both
-//! orders of its boxes.
+//! Propagates a changed edge: applies the rule instances that read its mask, in both orders of its
+//! boxes.
 //!
-//! Mostly nothing follows. So the tests come first, in a copy for each mask, and what is to be done
-//! is in functions that aren't inlined.
+//! Most changes imply nothing new. Cheap prechecks therefore run first, inlined once per mask; the
+//! code that applies rules is kept out of line.
 ghost use Rattle.std.specs.Prelude.{◌≡◌, ◌<◌, ◌⊎◌, ℕ, not, nat_lt};
 ghost use Rattle.packing_terms.specs.declared.Rel.{Rel as PlainRel};
 ghost use Rattle.packing_terms.specs.Relations.{mirror};
@@ -22,7 +22,7 @@ use box_instances::Instance;
 use edge_state::{BitRow, EdgeState, Mask, Rel};
 use relation_table::flip;
 
-// The same in both orders. The mask is given, and the flipped one.
+// The instances of `spread_from` in both orders of the boxes. `turned` is the flipped mask.
 #[inline(always)]
 fn spread_both<const K: usize>(
     instance: &Instance,
@@ -53,8 +53,9 @@ fn spread_both<const K: usize>(
     spread_from(instance, state, all, dim, v, u, turned, back)
 }
 
-// The same, and APART, which adds the same in both orders. It comes last, since it reads and writes
-// masks of other dimensions: up to it the tests in both orders share the rows that they read.
+// The instances of `spread_both`, then APART, which adds the same in both orders. APART comes last
+// because it reads and writes masks of other dimensions: before it the prechecks of both orders
+// share the rows that they read.
 #[inline(never)]
 fn spread_near<const K: usize>(
     instance: &Instance,
@@ -83,7 +84,7 @@ fn spread_near<const K: usize>(
     apply_apart_if_joined::<K>(instance, state, dim, u, v, left)
 }
 
-// The instances of CYCLE that ask for two boxes that are apart, and then the same.
+// The instances of CYCLE that ask for two boxes that are apart, then those of `spread_near`.
 #[inline(never)]
 fn spread_chorded<const K: usize>(
     instance: &Instance,
@@ -112,8 +113,8 @@ fn spread_chorded<const K: usize>(
     spread_near(instance, state, all, dim, u, v, left, turned, stale)
 }
 
-// The instances other than those of COMPOSE and TRIPLE. Mostly nothing follows: what may follow is
-// in functions that aren't inlined.
+// All instances but those of COMPOSE and TRIPLE. Most changes imply nothing new, so what applies
+// rules is kept out of line.
 #[inline(always)]
 fn propagate_if_any<const K: usize>(
     instance: &Instance,
@@ -146,7 +147,7 @@ fn propagate_if_any<const K: usize>(
     apply_apart_if_joined::<K>(instance, state, dim, u, v, left)
 }
 
-// The instances other than those of COMPOSE.
+// All instances but those of COMPOSE.
 #[inline(never)]
 fn spread_later<const K: usize>(
     instance: &Instance,
@@ -178,7 +179,7 @@ fn spread_later<const K: usize>(
     propagate_if_any(instance, state, all, dim, u, v, left, turned, stale)
 }
 
-// All instances that read the mask of an edge, up to those that add the same.
+// All instances that read the mask of an edge. Of instances that add the same, one is applied.
 #[inline(never)]
 fn apply_all_rules<const K: usize>(
     instance: &Instance,
@@ -220,7 +221,7 @@ fn apply_all_rules<const K: usize>(
     )
 }
 
-// All instances that read the mask of an edge, where mostly nothing follows.
+// Like `apply_all_rules`, after a precheck, since most changes imply nothing new.
 #[inline(always)]
 fn propagate_mask<const K: usize>(
     instance: &Instance,
@@ -255,7 +256,7 @@ fn propagate_mask<const K: usize>(
     propagate_if_any(instance, state, all, dim, u, v, left, turned, stale)
 }
 
-// The mask of one relation.
+// The mask with one relation.
 #[inline(always)]
 fn only(rel: Rel) -> Mask
     ensures { (r : PlainRel) → mask_has result r ≡ is_same_rel rel r }
@@ -267,7 +268,7 @@ fn only(rel: Rel) -> Mask
     }
 }
 
-// The mask of the two other relations.
+// The mask with the two other relations.
 #[inline(always)]
 fn but(rel: Rel) -> Mask
     ensures { (r : PlainRel) → mask_has result r ≡ not (is_same_rel rel r) }
@@ -275,12 +276,13 @@ fn but(rel: Rel) -> Mask
     Mask::all().without(rel)
 }
 
-/// All instances that read the mask of an edge, which is given, up to those that add the same.
+/// Applies all instances that read the mask of an edge, which is `left`. Of instances that add the
+/// same, one is applied.
 ///
-/// In each copy the mask is a constant, so what it rules out falls away when the copy is compiled.
-/// Looking through a change, neither the full mask nor the empty one comes.
+/// `left` is a constant in each arm, so inlining drops the rule groups that this mask rules out.
+/// The worklist never passes a full or an empty mask; the last arm covers them.
 #[inline(always)]
-pub(crate) fn spread<const K: usize>(
+pub(crate) fn propagate_edge<const K: usize>(
     instance: &Instance,
     state: &mut EdgeState,
     all: BitRow<K>,

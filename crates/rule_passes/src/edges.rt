@@ -1,10 +1,9 @@
-//! What follows from a changed edge: the instances of the rules that read its mask, in both orders
-//! of its boxes.
+//! Applies rule instances that read the mask of a changed edge, in both orders of its boxes.
 //!
-//! Each call applies some instances one after another and answers whether a mask is empty; it stops
-//! there. The mask of the edge is given as it stood before: where a relation was in it, an instance
-//! that asks for its exclusion has nothing to add, and where that went since, the change is looked
-//! through in its turn.
+//! Each call applies some instances one after another, stops at the first empty mask, and returns
+//! whether there was one. The mask of the edge is given as it was before: an instance that asks for
+//! the exclusion of a relation in it adds nothing. If that relation was excluded meanwhile, the
+//! worklist propagates that change later.
 ghost use Rattle.std.specs.Prelude.{◌≡◌, ◌<◌, ◌⊎◌, ℕ, false, not, nat_lt};
 ghost use Rattle.packing_terms.specs.declared.Rel.{Rel as PlainRel};
 ghost use Rattle.packing_terms.specs.declared.Rel.TheVariants.{Overlap, Before, After};

@@ -1,5 +1,4 @@
-//! Weights of chains rise where two boxes become ordered, and a chain that is too long then ends the
-//! closing.
+//! Raises the weights of chains for a change, and ends the closing at an over-long chain.
 ghost use Rattle.std.specs.Prelude.{◌≡◌, ◌+◌, ◌<◌, ◌⊎◌, ℕ, not, nat_lt, true, false, length};
 ghost use Rattle.packing_terms.specs.Packing.{dims, box_count};
 ghost use Rattle.packing_terms.specs.declared.Rel.{Rel as PlainRel};
@@ -17,7 +16,8 @@ use early_chains::{apply_long_chain, find_chain};
 use edge_state::{BitRow, ChainWeights, EdgeState, Exclusion, Mark, Mask};
 use orientation_rules::PendingChains;
 
-// Empties a mask where a chain through `x` is found that is too long.
+// Looks for an over-long chain through `x`, and empties a mask of it. Returns whether there was
+// one.
 #[inline(never)]
 fn shut_chain_through<const K: usize>(
     instance: &Instance,
@@ -43,10 +43,10 @@ fn shut_chain_through<const K: usize>(
     true
 }
 
-/// Follows a change of the state's list, the one behind a position, whose mask is given and isn't
-/// empty: where it orders its boxes, weights of chains rise. Where a chain is found then that is
-/// too long, a mask is emptied, which the answer shows: most conflicts are such chains, and CHAIN
-/// comes last. Else the state stays.
+/// Raises the weights of chains for the change after `mark`, if it orders its two boxes. `left` is
+/// their mask, which isn't empty. If a chain is over-long then, a mask of it is emptied and true is
+/// returned: most conflicts are such chains, and CHAIN itself is applied last. Otherwise the state
+/// stays.
 #[inline(always)]
 pub(crate) fn shut_long_chain<const K: usize>(
     instance: &Instance,

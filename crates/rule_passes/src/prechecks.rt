@@ -1,8 +1,8 @@
-//! Whether anything follows from a changed edge: the tests of the instances that read its mask,
-//! over a state that stays.
+//! Prechecks for a changed edge: whether instances that read its mask may add anything. The state
+//! stays.
 //!
-//! Mostly nothing follows. Then the rows of the two boxes are read once for all tests, since
-//! nothing is written between them.
+//! Most changes imply nothing new. The rows of the two boxes are then read once for all prechecks,
+//! since nothing is written between them.
 ghost use Rattle.std.specs.Prelude.{◌≡◌, ◌<◌, ◌⊎◌, ℕ, false, not, nat_lt};
 ghost use Rattle.packing_terms.specs.declared.Rel.{Rel as PlainRel};
 ghost use Rattle.packing_terms.specs.declared.Rel.TheVariants.{Overlap, Before, After};
@@ -144,8 +144,8 @@ fn may_spread_joined<const K: usize>(
     may_cycle(instance, state, all, dim, v, u)
 }
 
-// Whether something follows for a box that is surely before another: nothing where the mask has
-// overlap or after.
+// Whether an instance may add something for a box that is surely before another: none if the mask
+// has overlap or after.
 #[inline(always)]
 fn may_spread_ordered<const K: usize>(
     instance: &Instance,
@@ -175,8 +175,8 @@ fn may_spread_ordered<const K: usize>(
     may_order_second(instance, state, all, dim, p, q)
 }
 
-// Whether something follows for a box that isn't before another: nothing if the mask has before, or
-// if the exclusion of before is stale.
+// Whether an instance may add something for a box that isn't before another: none if the mask has
+// before, or if the exclusion of before is stale.
 #[inline(always)]
 fn may_spread_crossed<const K: usize>(
     instance: &Instance,
@@ -204,8 +204,8 @@ fn may_spread_crossed<const K: usize>(
     may_order_crossed(instance, state, all, dim, p, q)
 }
 
-/// Whether something follows for joined, for ordered or for not before, of two boxes in both
-/// orders, without APART. The mask is given, and the flipped one.
+/// Whether an instance that asks for joined, for ordered or for not before may add something, for
+/// two boxes in both orders, without APART. The mask is given, and the flipped one.
 #[inline(always)]
 pub(crate) fn may_spread_both<const K: usize>(
     instance: &Instance,

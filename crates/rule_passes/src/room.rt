@@ -1,4 +1,4 @@
-//! The working room of closings, and where they begin: at nothing, or where the state was closed.
+//! The propagator: closes a state from scratch, or from the mark at which it was closed before.
 ghost use Rattle.std.specs.Prelude.{◌≡◌, ◌<◌, ◌≤◌, ◌-◌, ℕ, true, nat_lt, length, drop, slice_index_or, IfOk, MatchBool};
 ghost use Rattle.packing_terms.specs.Limits.{IsDimCount, IsBoxCount};
 ghost use Rattle.packing_terms.specs.Packing.{dims, box_count};
@@ -19,11 +19,11 @@ use edge_state::{BitRow, ChainWeights, EdgeState, Mark};
 use std::alloc::Global;
 use std::marker::Model;
 
-/// The working room of closings, for states of `dims` dimensions and `boxes` boxes. It is seen as
+/// Closes states of `dims` dimensions and `boxes` boxes: runs the rules to a fixpoint. The view has
 /// these two sizes, and the number of boxes that it was made for.
 ///
-/// Rows have one word where that holds all boxes, and else two. Its weights of chains stand in for
-/// those that a state keeps while they are used.
+/// Rows have one word if that holds all boxes, else two. During a closing, `weights` is exchanged
+/// with the chain weights of the state.
 #[derive(Drop)]
 pub struct Propagator {
     dims: u32,
@@ -46,7 +46,7 @@ impl Model for Propagator {
 }
 
 impl Propagator {
-    // The working room in which a chain that is too long is looked for early, or not.
+    // A propagator with or without early detection of over-long chains.
     fn made(alloc: Global, dims: u32, boxes: u32, stops_early: bool) -> Result<Propagator, NoMemory>
         requires dimensions { IsDimCount dims }
         requires boxes { IsBoxCount boxes }
@@ -65,8 +65,8 @@ impl Propagator {
         })
     }
 
-    /// The working room for states of `dims` dimensions and `boxes` boxes. `dims` is from 2 to 4,
-    /// `boxes` from 1 to 128. A closing ends as soon as it finds a chain that is too long.
+    /// A propagator for states of `dims` dimensions and `boxes` boxes. `dims` is from 2 to 4,
+    /// `boxes` from 1 to 128. A closing ends as soon as it detects an over-long chain.
     pub fn new(alloc: Global, dims: u32, boxes: u32) -> Result<Propagator, NoMemory>
         requires dimensions { IsDimCount dims }
         requires boxes { IsBoxCount boxes }
@@ -76,7 +76,8 @@ impl Propagator {
         Propagator::made(alloc, dims, boxes, true)
     }
 
-    /// The same, but a closing goes along what changed, in its order, to the mask that is empty.
+    /// Like `new`, but without early detection of over-long chains: `explain` needs the complete
+    /// list of exclusions up to the empty mask.
     pub fn in_order(alloc: Global, dims: u32, boxes: u32) -> Result<Propagator, NoMemory>
         requires dimensions { IsDimCount dims }
         requires boxes { IsBoxCount boxes }
@@ -86,7 +87,8 @@ impl Propagator {
         Propagator::made(alloc, dims, boxes, false)
     }
 
-    /// Uses it for states of `boxes` boxes, at most as many as it was made for. It takes no memory.
+    /// Prepares it for states of `boxes` boxes, at most as many as it was made for. It takes no
+    /// memory.
     pub fn set_boxes(&mut self, boxes: u32)
         requires count { IsBoxCount boxes }
         requires most { boxes ≤ self.old.most }
@@ -97,7 +99,7 @@ impl Propagator {
         self.wide = all_boxes(boxes);
     }
 
-    // Closes the state from a position of its list, with rows of as many words as hold all boxes.
+    // Closes the state from the mark `closed` on, with rows of as many words as hold all boxes.
     fn close_from(&mut self, instance: &Instance, state: &mut EdgeState, closed: Mark) -> bool
         requires dims { state.old.dims ≡ dims instance.now }
         requires boxes { state.old.boxes ≡ box_count instance.now }
@@ -124,11 +126,11 @@ impl Propagator {
         close_in(instance, state, self.wide, closed, early, weights)
     }
 
-    /// Excludes what follows from the exclusions of the state, by the seven rules, until no rule
-    /// adds anything or a mask is empty, which the answer shows.
+    /// Runs the seven rules on the exclusions of the state until no rule adds anything or a mask is
+    /// empty. Returns whether a mask is empty.
     ///
-    /// The new exclusions come on top of the old ones, so `undo` gives the masks back. Room,
-    /// instance and state have the same sizes. It takes no memory.
+    /// The derived exclusions come on top of the old ones, so `undo` gives the masks back.
+    /// Propagator, instance and state have the same sizes. It takes no memory.
     pub fn close_all(&mut self, instance: &Instance, state: &mut EdgeState) -> bool
         requires dims { state.old.dims ≡ dims instance.now }
         requires boxes { state.old.boxes ≡ box_count instance.now }
@@ -149,8 +151,8 @@ impl Propagator {
         self.close_from(instance, state, Mark::first())
     }
 
-    /// The same for a state that was closed, without an empty mask, at a position of its list, and
-    /// to which exclusions were added since. It looks only at what these lead to.
+    /// Like `close_all`, for a state that was closed without an empty mask at the mark `closed`,
+    /// and to which exclusions were added since. It propagates only these.
     pub fn close_since(&mut self, instance: &Instance, state: &mut EdgeState, closed: Mark) -> bool
         requires dims { state.old.dims ≡ dims instance.now }
         requires boxes { state.old.boxes ≡ box_count instance.now }

@@ -1,4 +1,4 @@
-//! Going along what changed: the worklist is the newer part of the state's list of exclusions.
+//! The worklist: the newer part of the list of exclusions of a state.
 ghost use Rattle.std.specs.Prelude.{◌≡◌, ◌<◌, ◌≤◌, ◌+◌, ◌-◌, ◌⊎◌, ℕ, true, false, not, nat_lt, length, drop, MatchOption};
 ghost use Rattle.packing_terms.specs.Packing.{dims, box_count};
 ghost use Rattle.packing_terms.specs.declared.Rel.{Rel as PlainRel};
@@ -13,27 +13,27 @@ ghost use Rattle.edge_state.specs.Work.{IsUnordered, IsNextMark};
 ghost use Rattle.edge_state.specs.Work.{IsWorklistDone};
 ghost use Rattle.orientation_rules.specs.Pending.{AreFollowed, AreHeld};
 
-use crate::dispatch::spread;
+use crate::dispatch::propagate_edge;
 use crate::empties::is_empty_left;
 use crate::long_chains::shut_long_chain;
 use box_instances::Instance;
 use edge_state::{BitRow, ChainWeights, EdgeState, Exclusion, Mark, Mask};
 use orientation_rules::PendingChains;
 
-// The position of the list after a change. Beside it the relations whose exclusion is stale: all
-// but the one that the change excludes.
+// The mark after `change`, and the relations whose exclusion is stale: all but the one that
+// `change` excludes.
 #[inline(always)]
-fn behind(state: &EdgeState, mark: Mark, change: Exclusion) -> (Mark, Mask)
+fn mark_after_change(state: &EdgeState, mark: Mark, change: Exclusion) -> (Mark, Mask)
     requires { IsChangeAfter state.now.trail mark change (mark + 1) }
     ensures { IsNextMark mark change (λ r. not (mask_has result.1 r)) result.0 }
 {
     (state.mark_after(mark), Mask::all().without(change.rel))
 }
 
-/// Looks through the exclusions that came after a position of the list, and those that follow, the
-/// oldest first. Afterwards no rule but CHAIN adds anything, and CHAIN only in the dimensions that
-/// are pending; to those that were come those in which two boxes became ordered. Answers whether a
-/// mask is empty; it stops there.
+/// Drains the worklist: propagates every exclusion after the mark `closed`, oldest first, including
+/// those added meanwhile. On return only CHAIN can still add anything, and only in the dirty
+/// dimensions of `pending`: those of before, and each one in which a pair became ordered. Returns
+/// whether a mask is empty, at which it stops.
 pub(crate) fn drain_worklist<const K: usize>(
     instance: &Instance,
     state: &mut EdgeState,
@@ -72,9 +72,9 @@ pub(crate) fn drain_worklist<const K: usize>(
         if shut_long_chain(instance, state, weights, pending, all, next, change, left) {
             return true;
         }
-        let (after, stale) = behind(state, next, change);
+        let (after, stale) = mark_after_change(state, next, change);
         let most = instance.longest_side(change.dim);
-        if spread(
+        if propagate_edge(
             instance, state, all, change.dim, change.u, change.v, left, stale, most,
         ) {
             return true;

@@ -94,8 +94,8 @@ longest_side-most-requires g c =
     c.dims-sizes.ensures.limits.trail c.in-Some.ensures in
     omega (arith, edge.dim, c.loop-change.invariant.same_dims, c.requires.dims)
 
-pub spread-requires : goal.spread-requires
-spread-requires g c =
+pub propagate_edge-requires : goal.propagate_edge-requires
+propagate_edge-requires g c =
     let s = c.loop-change.state in
     let same = c.shut_long_chain.ensures.same c.if-shut_long_chain.false in
     let left : (r : Rel) → mask_has c.mask_in-left.result r
@@ -141,7 +141,7 @@ loop-change-smaller g c =
     let change = c.in-Some.ensures in
     let before_last : c.loop-change.next < length s.trail = change.before_last in
     let past = behind_within s.trail c.loop-change.next _ c.in-Some.change _ before_last
-    c.behind-after.ensures in
+    c.mark_after_change-after.ensures in
     omega (arith, short, before_last, past.0)
 
 pub loop-change-preserved : goal.loop-change-preserved
@@ -151,16 +151,16 @@ loop-change-preserved g c =
     let edge = change_edge s.dims s.boxes s.trail c.loop-change.next _ c.in-Some.change
     c.dims-sizes.ensures.limits.trail change in
     let same = c.shut_long_chain.ensures.same c.if-shut_long_chain.false in
-    let due : HasApplied c.args.instance.now c.shut_long_chain.new.state c.spread.new.state false
+    let due : HasApplied c.args.instance.now c.shut_long_chain.new.state c.propagate_edge.new.state false
     (λ rule. HasNoEmptyMask c.args.instance.now (excludes c.shut_long_chain.new.state.trail)
-    × IsDue (λ r. not (mask_has c.behind-after.result.1 r)) c.in-Some.change.dim c.in-Some.change.u c.in-Some.change.v rule)
-    = worked_kept _ _ _ _ _ c.if-spread.false c.spread.ensures in
-    let work : HasApplied c.args.instance.now s c.spread.new.state false
+    × IsDue (λ r. not (mask_has c.mark_after_change-after.result.1 r)) c.in-Some.change.dim c.in-Some.change.u c.in-Some.change.v rule)
+    = worked_kept _ _ _ _ _ c.if-propagate_edge.false c.propagate_edge.ensures in
+    let work : HasApplied c.args.instance.now s c.propagate_edge.new.state false
     (λ rule. HasNoEmptyMask c.args.instance.now (excludes s.trail)
-    × IsDue (λ r. not (mask_has c.behind-after.result.1 r)) c.in-Some.change.dim c.in-Some.change.u c.in-Some.change.v rule)
+    × IsDue (λ r. not (mask_has c.mark_after_change-after.result.1 r)) c.in-Some.change.dim c.in-Some.change.u c.in-Some.change.v rule)
     = rw same at due in
     let past = behind_within s.trail c.loop-change.next _ c.in-Some.change _ change.before_last
-    c.behind-after.ensures in
+    c.mark_after_change-after.ensures in
     let here : IsEdge c.args.instance.now c.in-Some.change.dim c.in-Some.change.u c.in-Some.change.v
     = record {
       dim = omega (arith, edge.dim, c.loop-change.invariant.same_dims, c.requires.dims);
@@ -175,24 +175,24 @@ loop-change-preserved g c =
       same_box_capacity = work.same_box_capacity ∙ c.loop-change.invariant.same_box_capacity;
       extends = extends_trans _ _ _ _ c.loop-change.invariant.extends work.extends;
       later = omega (arith, c.loop-change.invariant.later, past.0);
-      within = grown_past c.args.instance.now _ _ _ _ _ _ work.extends change.before_last c.behind-after.ensures;
+      within = grown_past c.args.instance.now _ _ _ _ _ _ work.extends change.before_last c.mark_after_change-after.ensures;
       looked = looked_step c.args.instance.now _ _ c.in-Some.change _ _ _ _ _ here c.if-is_empty_left.ensures work
           change
-          c.behind-after.ensures
+          c.mark_after_change-after.ensures
           c.shut_long_chain.ensures.clean c.shut_long_chain.ensures.unordered c.shut_long_chain.ensures.within
           c.loop-change.invariant.looked;
-      followed = followed_step _ _ _ _ _ _ _ _ same due.extends change.before_last c.behind-after.ensures.counted
+      followed = followed_step _ _ _ _ _ _ _ _ same due.extends change.before_last c.mark_after_change-after.ensures.counted
           (c.shut_long_chain.ensures.followed c.if-shut_long_chain.false);
       still = λ e. absurd (omega (arith, e, c.loop-change.invariant.later, past.0));
     }
 
-pub returns-then-spread-clause-extends : goal.returns-then-spread-clause-extends
-returns-then-spread-clause-extends g c =
+pub returns-then-propagate_edge-clause-extends : goal.returns-then-propagate_edge-clause-extends
+returns-then-propagate_edge-clause-extends g c =
     extends_trans _ _ _ _ (extends_trans _ _ _ _ c.loop-change.invariant.extends c.shut_long_chain.ensures.extends)
-    c.spread.ensures.extends
+    c.propagate_edge.ensures.extends
 
-pub returns-then-spread-clause-held : goal.returns-then-spread-clause-held
-returns-then-spread-clause-held g c = held_grown _ _ _ c.spread.ensures.extends _ c.shut_long_chain.ensures.held
+pub returns-then-propagate_edge-clause-held : goal.returns-then-propagate_edge-clause-held
+returns-then-propagate_edge-clause-held g c = held_grown _ _ _ c.propagate_edge.ensures.extends _ c.shut_long_chain.ensures.held
 
 pub returns-then-shut_long_chain-clause-extends : goal.returns-then-shut_long_chain-clause-extends
 returns-then-shut_long_chain-clause-extends g c =
