@@ -154,8 +154,8 @@ impl<'a> Model for ResumableTree<'a> {
     ghost view = { λ t. t.tree.now };
 }
 
-// How often a room in use is tried again. It is in use for a look through its pieces, which takes
-// less time than `MAX_LOCK_TRIES` tries.
+// Lock attempts before giving up. A holder only scans the pieces, which takes less time than this
+// many attempts.
 const MAX_LOCK_TRIES: u32 = 10_000;
 
 // Tries to lock a list, at most `MAX_LOCK_TRIES` times. It never blocks, because `Tree::explore`

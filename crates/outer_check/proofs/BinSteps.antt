@@ -30,7 +30,7 @@ named instance v e =
     let p = and_parts (nat_le 1 v) (nat_le v (box_count instance)) e in
     (leb-true 1 v p.0, leb-true v (box_count instance) p.1)
 
--- some box is in a child that a split goes on to
+-- some box is in a child on the path
 some_box : (n : ℕ) (frames : List Frame) (child : ℕ) → AreSplits n frames → is_some_put frames child ≡ true
     → (v : ℕ) × (v < n) × (is_put frames child v ≡ true)
 some_box n [] child splits e = absurd (true≢false (sym e))

@@ -42,7 +42,7 @@ worth_more instance p v total test more before tested added =
     go true = let e : 0 + value instance v ≡ value instance v = omega arith in e
     go false = refl
 
--- no box is in a child that no split goes on to
+-- no box is in a child that isn't on the path
 nowhere : (frames : List Frame) (child v : ℕ) → is_some_put frames child ≡ false → is_put frames child v ≡ false
 nowhere [] child v e = refl
 nowhere (f ∷ frames) child v e = go (f.child == child) e (nowhere frames child v)

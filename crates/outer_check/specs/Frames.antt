@@ -1,6 +1,6 @@
 -- The splits on the path to the current node of an outer tree, the newest first, as a refuter holds
--- them: of each its box, which of its children the path goes on to, how many it has, and for bins
--- how many are used at its node.
+-- them: for each its box, which of its children is on the path, how many it has, and for bins how many
+-- are used at its node.
 use Rattle.std.specs.Prelude.{ℕ, ◌≡◌, suc, ◌<◌, ◌≤◌, ◌==◌, ◌&&◌, ◌^◌, Bool, true, false, not, max, nat_lt}
 use Rattle.std.specs.Prelude.{if◌then◌else◌, List, [], ◌∷◌}
 use Rattle.std.specs.List.{list_any, filter, range_with_len}
@@ -47,7 +47,7 @@ next_frames [] = []
 next_frames (f ∷ frames) = if nat_lt (suc f.child) f.children then record f { child = suc f.child }
     ∷ frames else next_frames frames
 
--- each split is by a box of the text that is there, and has the child that the path goes on to
+-- each split is by a box of the text that is there, and has the child on the path
 abbrev pub AreSplits : ℕ → List Frame → Type 0
 AreSplits n [] = Unit {0}
 AreSplits n (f ∷ frames) = (1 ≤ f.box_no) × (f.box_no ≤ n) × (f.child < f.children) × (f.children < 2 ^ 32)

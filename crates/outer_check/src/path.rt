@@ -9,8 +9,8 @@ use box_instances::{MAX_BOXES, NoMemory};
 use std::alloc::Global;
 use std::marker::Model;
 
-/// A split: its box by the number of the text, the child that the path goes on to, how many
-/// children it has, and for bins how many are used at its node.
+/// A split: its box by the number of the text, the child on the path, how many children it has, and
+/// for bins how many are used at its node.
 #[derive(Clone, Copy, Drop)]
 pub struct Frame {
     pub box_no: u32,
@@ -99,7 +99,7 @@ fn push_where(list: &mut Vec<u32>, number: u32, test: bool)
     }
 }
 
-// Whether one of the splits goes on to its child of this number.
+// Whether the path takes the child of this number at one of the splits.
 fn has_child(frames: &[Frame], child: u32) -> bool
     ensures { result ≡ list_any (λ (f : PlainFrame). f.child == child) frames.now }
 {

@@ -33,7 +33,7 @@ abbrev pub AreBinBounds : PlainInstance → Settings → PlainBounds → Type 0
 AreBinBounds instance settings =
     AreBounds (AreBinNumbers instance) (IsBinRefutation instance) (IsPastCount instance settings) (box_count instance)
 
--- the same where nothing is known of what was left undecided
+-- bounds like these, without a claim about what was left undecided
 abbrev pub AreFirstBounds : PlainInstance → PlainBounds → Type 0
 AreFirstBounds instance = AreBounds (AreBinNumbers instance) (IsBinRefutation instance) (λ k. Unit {0})
     (box_count instance)

@@ -59,7 +59,7 @@ abbrev pub AreValueBounds : PlainInstance → Settings → PlainBounds → Type 
 AreValueBounds instance settings =
     AreBounds (ShowsLevel instance) (RefutesLevel instance) (IsPastLevel instance settings) (top_value instance)
 
--- the same where nothing is known of what was left undecided
+-- bounds like these, without a claim about what was left undecided
 abbrev pub AreFirstBounds : PlainInstance → PlainBounds → Type 0
 AreFirstBounds instance = AreBounds (ShowsLevel instance) (RefutesLevel instance) (λ level. Unit {0})
     (top_value instance)

@@ -40,7 +40,7 @@ module _ (instance : PlainInstance) (s : PlainEdges) (i : ℕ) (direction : Dire
   least_side v h = let l = (weighed.heaviest v h).most [] (h, tt, tt) tt in let e =
       sum_by-cons w v [] in omega (arith, l, e)
 
-  -- the chain that goes on to the next box weighs more than that from there on
+  -- the chain from a box weighs more than that from its successor
   pub falls : (v x least : ℕ) → v < box_count instance → IsNextBox instance s i direction ks least v x
       → slice_index ks x < slice_index ks v
   falls v x least h next =

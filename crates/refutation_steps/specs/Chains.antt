@@ -26,7 +26,7 @@ pub record AreWeighed (instance : PlainInstance) (s : PlainEdges) (i : ℕ) (dir
         → IsHeaviestRun (box_count instance) (Leads (excludes s.trail) i direction) (λ u. side instance u i) v
         (slice_index ks v)
 
--- a chain of the box goes on to w, and those from w on weigh at least so much
+-- `w` is a successor of the box, and the weight from `w` on is at least `least`
 pub record IsNextBox (instance : PlainInstance) (s : PlainEdges) (i : ℕ) (direction : Direction) (ks : List ℕ)
     (least v w : ℕ) : Type 0 where
   pub there : w < box_count instance

@@ -21,7 +21,7 @@ fn leads_to(state: &EdgeState, dim: u32, direction: Direction, v: u32, w: u32) -
     }
 }
 
-// Whether a chain of a box goes on to w, with at least so much weight from there on.
+// Whether `w` is a successor of a box, with at least this weight from `w` on.
 fn is_next(
     state: &EdgeState,
     dim: u32,
@@ -49,7 +49,7 @@ fn is_next(
     weights[w as usize] >= least
 }
 
-// A box that a heaviest chain of a box goes on to, where it goes on.
+// A successor of a box on a heaviest chain from it, if the chain has one.
 fn next_box(
     instance: &Instance,
     state: &EdgeState,

@@ -48,7 +48,7 @@ fn goes_on(facts: &Facts, dim: u32, backwards: bool, v: u32, w: u32) -> bool {
     }
 }
 
-// The greatest weight of a box that a chain of v goes on to.
+// The greatest weight of a successor of `v`.
 fn heaviest_behind(facts: &Facts, weights: &[u64], dim: u32, backwards: bool, v: u32) -> u64 {
     let mut most = 0;
     for w in 0..facts.boxes {
@@ -87,7 +87,7 @@ fn weigh(facts: &Facts, weights: &mut [u64], dim: u32, backwards: bool) {
     }
 }
 
-// The heaviest lighter box that a chain of v goes on to.
+// The heaviest of the successors of `v` that are lighter than it.
 fn next_box(facts: &Facts, weights: &[u64], dim: u32, backwards: bool, v: u32) -> Option<u32> {
     let mut next = None;
     let mut most = 0;
