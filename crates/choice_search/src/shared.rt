@@ -129,9 +129,8 @@ impl<'a> ChoiceTree<'a> {
             return self.explore_with(alloc, search, settings.budget);
         }
         let pooled = PooledTree { tree: self, search };
-        let cap = settings.budget.min(ALONE_BUDGET);
-        let outcome = pooled.explore_alone(alloc, cap)?;
-        if cap < settings.budget && matches!(outcome, Outcome::Past) {
+        let outcome = pooled.explore_alone(alloc, ALONE_BUDGET)?;
+        if matches!(outcome, Outcome::Past) {
             return solve_shared(rt, alloc, &pooled, settings, gate);
         }
         Ok(outcome)
