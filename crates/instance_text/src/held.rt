@@ -73,6 +73,19 @@ impl HeldLine {
         }
     }
 
+    /// Makes it nothing of a line again. It blanks the words that are held, where a new value would
+    /// write all 12.
+    pub fn clear(&mut self)
+        ensures { self.new ≡ no_line }
+    {
+        self.bad = false;
+        self.in_comment = false;
+        self.pending_return = false;
+        self.word.clear();
+        self.words.clear();
+        self.count = 0;
+    }
+
     /// Ends the word begun, if there is one.
     pub fn end_word(&mut self)
         ensures { self.new ≡ end_word self.old }

@@ -52,7 +52,7 @@ impl LineLexer {
         ensures { self.new ≡ record self.old { begun = true; held = held_of self.old } }
     {
         if !self.begun {
-            self.held = HeldLine::new();
+            self.held.clear();
             self.begun = true;
         }
     }
