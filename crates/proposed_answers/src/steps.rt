@@ -12,8 +12,8 @@ const FLAT_BATCH_COST: u64 = 24_000;
 
 const DEEP_BATCH_COST: u64 = 2_000;
 
-// The steps in any case, for each branching of a small budget, and for each of a larger one: trees
-// and proposals of a run take 0.01 s for a budget of 0, 0.4 s for 10,000, and 12 s for 1,000,000.
+// The steps in any case, for each branching of a small budget, and for each of a larger one: the
+// trees of a run take 0.01 s for a budget of 0, 0.4 s for 10,000, and 12 s for 1,000,000.
 // The refutation search of `fit` then has as many splits as the hardest of 69 public instances
 // takes (617,000 for 14 boxes).
 const SMALL_BUDGET: u64 = 20_000;
@@ -26,14 +26,16 @@ const TREE_STEPS_OF_MORE: u64 = 960;
 
 // The steps of swaps for each branching, and in any case: for boxes in a container and sets worth
 // much, and for low packings. With 60 boxes in two dimensions the low ones have 1 batch for a
-// budget of 0, 26 for 10,000 and 96 for 1,000,000. Over 32 strips of 17 to 100 boxes the mean gap
+// budget of 0, 68 for 10,000 and 96 from 20,000 on. Over 32 strips of 17 to 100 boxes the mean gap
 // to what scales refute is 2.4 % after the batches of a budget of 0 (1.9 % with twice the steps,
-// which take up to 0.2 s), and 1.6 % after those of 10,000.
+// which take up to 0.2 s), 1.6 % after 26 batches for 60 boxes, and 1.5 % after 60.
 const SWAP_STEPS: u64 = 3_000_000;
 
 const LOW_SWAP_STEPS: u64 = 1_500_000;
 
 const SWAP_STEPS_OF_SMALL: u64 = 3_500;
+
+const LOW_SWAP_STEPS_OF_SMALL: u64 = 9_500;
 
 const SWAP_STEPS_OF_MORE: u64 = 200;
 
@@ -41,6 +43,8 @@ const MOST_BATCHES: u64 = 96;
 
 // In three and four dimensions packings are lower the longer swaps go on (60 boxes: 1,102 behind
 // 19,200 fills in a row, 1,083 behind 76,800), and little else narrows the gap.
+const DEEP_SWAP_STEPS_OF_SMALL: u64 = 12_000;
+
 const DEEP_SWAP_STEPS_OF_MORE: u64 = 550;
 
 const MOST_DEEP_BATCHES: u64 = 128;
@@ -96,10 +100,9 @@ pub(crate) fn splits_within(instance: &Instance, steps: u64) -> u64 {
     steps / SPLIT_COST / branching_steps(instance).max(1)
 }
 
-// The steps that swaps may take under a budget: `least` in any case, and each further branching
-// pays for `more`.
-fn swap_steps(budget: u64, least: u64, more: u64) -> u64 {
-    steps_of(budget, SWAP_STEPS_OF_SMALL, more).saturating_add(least)
+// The steps that swaps for boxes in a container, or for sets worth much, may take under a budget.
+fn swap_steps(budget: u64) -> u64 {
+    steps_of(budget, SWAP_STEPS_OF_SMALL, SWAP_STEPS_OF_MORE).saturating_add(SWAP_STEPS)
 }
 
 // The steps that a batch of rounds of swaps takes.
@@ -114,12 +117,14 @@ fn batch_steps(instance: &Instance) -> u64 {
 /// The batches of rounds of swaps for a low packing under a budget, at most 96 in two dimensions
 /// and 128 in more. There is none if the steps of the budget don't pay for one.
 pub(crate) fn swap_batches(instance: &Instance, budget: u64) -> u64 {
-    let (more, most) = if instance.dims() == 2 {
-        (SWAP_STEPS_OF_MORE, MOST_BATCHES)
+    let (steps, most) = if instance.dims() == 2 {
+        let steps = steps_of(budget, LOW_SWAP_STEPS_OF_SMALL, SWAP_STEPS_OF_MORE);
+        (steps, MOST_BATCHES)
     } else {
-        (DEEP_SWAP_STEPS_OF_MORE, MOST_DEEP_BATCHES)
+        let steps = steps_of(budget, DEEP_SWAP_STEPS_OF_SMALL, DEEP_SWAP_STEPS_OF_MORE);
+        (steps, MOST_DEEP_BATCHES)
     };
-    (swap_steps(budget, LOW_SWAP_STEPS, more) / batch_steps(instance).max(1)).min(most)
+    (steps.saturating_add(LOW_SWAP_STEPS) / batch_steps(instance).max(1)).min(most)
 }
 
 /// The batches of rounds of swaps for a packing in the container under a budget, at most 64.
@@ -129,7 +134,7 @@ pub(crate) fn packing_batches(instance: &Instance, budget: u64) -> u64 {
     } else {
         0
     };
-    let steps = swap_steps(budget, SWAP_STEPS, SWAP_STEPS_OF_MORE);
+    let steps = swap_steps(budget);
     (steps.saturating_add(more) / batch_steps(instance).max(1)).min(MOST_PACKING_BATCHES)
 }
 
@@ -152,7 +157,7 @@ pub fn value_batches(instance: &Instance, budget: u64) -> u64 {
     } else {
         (DEEP_VALUE_BATCH_COST, MOST_DEEP_VALUE_BATCHES)
     };
-    let steps = swap_steps(budget, SWAP_STEPS, SWAP_STEPS_OF_MORE);
+    let steps = swap_steps(budget);
     let batch = u64::from(instance.len()).saturating_mul(cost).max(1);
     (steps / batch).min(most)
 }
