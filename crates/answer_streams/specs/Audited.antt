@@ -138,9 +138,9 @@ IsFrontToldAs verdict (VerifiedFront complete points) =
 IsFrontToldAs verdict (RefusedFront line reason) = verdict ≡ Err (record { line = line; reason = reason })
 
 -- the verdict is reported by its line and its status
-pub record IsToldAs (verdict : KindVerdict) (told : AuditedVerdict) : Type 0 where
-  pub line : verdict_text told ≡ audit_line verdict
-  pub status : told_status told ≡ audit_status verdict
+pub record IsToldAs (verdict : KindVerdict) (audited : AuditedVerdict) : Type 0 where
+  pub line : verdict_text audited ≡ audit_line verdict
+  pub status : told_status audited ≡ audit_status verdict
 
 -- the parts of the line of a refusal
 abbrev pub audit_code_end : AuditCode → List ℕ

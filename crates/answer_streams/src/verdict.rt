@@ -46,8 +46,8 @@ pub(crate) fn write_numbered<K: Sink>(
         (number_line text.now number) so_far result }
 {
     let named = write_on(sink, so_far, text);
-    let told = write_number(sink, named, number);
-    write_on(sink, told, b"\n")
+    let numbered = write_number(sink, named, number);
+    write_on(sink, numbered, b"\n")
 }
 
 // Writes the text, two numbers with a space between them and a line feed.
@@ -63,8 +63,8 @@ fn write_paired<K: Sink>(
         (pair_line text.now first second) so_far result }
 {
     let named = write_on(sink, so_far, text);
-    let told = write_number(sink, named, first);
-    write_numbered(sink, told, b" ", second)
+    let numbered = write_number(sink, named, first);
+    write_numbered(sink, numbered, b" ", second)
 }
 
 // Writes the line of a claim from its job on.

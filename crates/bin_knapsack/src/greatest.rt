@@ -71,7 +71,7 @@ fn bisect_values<R: Threads + Wait + Sync, G: Gate + Sync>(
 }
 
 // The answer where a run of values ended.
-fn told(reached: Reached) -> Choice
+fn choice_of(reached: Reached) -> Choice
     requires { reached.spent ≡ false → suc reached.placed ≡ reached.refuted }
     ensures { Tells (plain_reached reached) result }
 {
@@ -117,5 +117,5 @@ pub fn greatest_value<R: Threads + Wait + Sync, G: Gate + Sync>(
     // For the proof alone: states the limits of the instance.
     let _limits = instance.len();
     let reached = bisect_values(rt, alloc, instance, settings, gate)?;
-    Ok(told(reached))
+    Ok(choice_of(reached))
 }

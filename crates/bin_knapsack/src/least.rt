@@ -71,7 +71,7 @@ fn bisect_bins<R: Threads + Wait + Sync, G: Gate + Sync>(
 }
 
 // The answer where a run of numbers of bins ended.
-fn told(reached: Reached) -> Bins
+fn bins_of(reached: Reached) -> Bins
     requires rising { reached.refuted < reached.placed }
     requires beside { reached.spent ≡ false → suc reached.refuted ≡ reached.placed }
     requires limit { reached.placed ≤ max_boxes }
@@ -124,7 +124,7 @@ pub fn least_bins<R: Threads + Wait + Sync, G: Gate + Sync>(
         Some((box_no, dim)) => Ok(Bins::NoneFits { box_no, dim }),
         None => {
             let reached = bisect_bins(rt, alloc, instance, settings, gate)?;
-            Ok(told(reached))
+            Ok(bins_of(reached))
         }
     }
 }

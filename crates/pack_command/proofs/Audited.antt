@@ -123,7 +123,7 @@ past_taken Explains old new bytes is past taken input =
 
 pub long_read : (words : List (String Global)) (old new sunk_old sunk_new : Option (List ℕ)) (status : ℕ)
     → (l : IsLongReading words old) → IsReadingDone l.task old new sunk_old sunk_new status → ⊥
-long_read words old new sunk_old sunk_new status l a = past_taken l.task old new l.bytes l.told l.past a.bytes a.input
+long_read words old new sunk_old sunk_new status l a = past_taken l.task old new l.bytes l.stated l.past a.bytes a.input
 
 -- ---- what all bytes come to
 
@@ -249,7 +249,7 @@ told_fronts (RefusedFront line reason) is e =
     record { line = ap front_verdict_line (sym e); status = ap front_verdict_status (sym e) }
 
 -- a verdict of the kind of the bytes
-pub told_as : (bytes : List ℕ) (kind : DocumentKind) (told : AuditedVerdict) → kind ≡ document_kind bytes
-    → IsToldAs (verdict_of_kind kind bytes) told
-    → IsToldAs (audit_verdict bytes) told
-told_as bytes kind told e h = subst (λ k. IsToldAs (verdict_of_kind k bytes) told) e h
+pub told_as : (bytes : List ℕ) (kind : DocumentKind) (stated : AuditedVerdict) → kind ≡ document_kind bytes
+    → IsToldAs (verdict_of_kind kind bytes) stated
+    → IsToldAs (audit_verdict bytes) stated
+told_as bytes kind stated e h = subst (λ k. IsToldAs (verdict_of_kind k bytes) stated) e h

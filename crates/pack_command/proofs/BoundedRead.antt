@@ -46,10 +46,10 @@ module _ (old mid new : Option (List ℕ)) (before between now : FaultCount) (s 
       subst AreByLines (sym begins.1)
       (begun_by_lines max_audit_bytes begun.opening begins.0 begun.within begun.told begun.kind)
 
-  told : (taken : List ℕ) (verdict : Verdict) → AreByLines taken → Consumed old new taken
+  stated : (taken : List ℕ) (verdict : Verdict) → AreByLines taken → Consumed old new taken
       → bounded_verdict taken ≡ plain_verdict verdict → HasVerdictUnder Bounded new taken (plain_verdict verdict)
       → IsAuditRead old new (Ok (ToldBounded verdict))
-  told taken verdict lines gives is enough = (
+  stated taken verdict lines gives is enough = (
     taken,
     inr (record {
       lines = lines;
@@ -64,10 +64,10 @@ module _ (old mid new : Option (List ℕ)) (before between now : FaultCount) (s 
       → IsAuditRead old new (Ok (ToldBounded verdict))
   bounded_read (VerifiedAs claim) rest =
       let r = behind (Verified claim) rest in
-      told r.taken (VerifiedAs claim) (lines_of r.taken r.begins) r.gives r.comes.0 r.comes
+      stated r.taken (VerifiedAs claim) (lines_of r.taken r.begins) r.gives r.comes.0 r.comes
   bounded_read (RefusedAs line reason) rest =
       let r = behind (Refused line reason) rest in
-      told r.taken (RefusedAs line reason) (lines_of r.taken r.begins) r.gives r.comes.0 r.comes
+      stated r.taken (RefusedAs line reason) (lines_of r.taken r.begins) r.gives r.comes.0 r.comes
 
   pub bounded_unread : (stop : Stop) → IsRestRead mid new between now s count job (Err stop) → IsUnaudited old new stop
   bounded_unread Words rest = absurd rest
@@ -105,11 +105,11 @@ module _ (old mid new : Option (List ℕ)) (before between now : FaultCount) (s 
 pub held_read : (old new : Option (List ℕ)) (o : Opened) (bytes : Vec ℕ Global) → o ≡ Whole bytes
     → IsOpened max_audit_bytes old new (Ok o) → (verdict : AuditedVerdict) (held : List ℕ) → held ≡ bytes.items
     → IsToldAs (audit_verdict held) verdict → IsAuditRead old new (Ok verdict)
-held_read old new o bytes is opened verdict held same told =
+held_read old new o bytes is opened verdict held same stated =
     let whole = subst (λ x. IsOpened max_audit_bytes old new (Ok x)) is opened in (
       bytes.items,
       inl (whole.3, record { taken = whole.0; ended = whole.1; within = whole.2 }),
-      subst (λ xs. IsToldAs (audit_verdict xs) verdict) same told,
+      subst (λ xs. IsToldAs (audit_verdict xs) verdict) same stated,
     )
 
 -- one that goes on behind its heading

@@ -197,7 +197,7 @@ module _ (words : List (String Global)) (old new sunk_old sunk_new : Option (Lis
       → IsSolving words old job settings instance → (stop : Stop)
       → IsJobAborted words old new sunk_old sunk_new stop → IsFault stop
   solving_stops job settings instance s stop undone =
-      by_cases stop (never_stops words old new sunk_old sunk_new job settings s.bytes instance s.asks s.told
+      by_cases stop (never_stops words old new sunk_old sunk_new job settings s.bytes instance s.asks s.stated
       s.within s.read stop
       (solved_undone words old new sunk_old sunk_new stop job settings s.asks undone))
 
@@ -208,7 +208,7 @@ module _ (words : List (String Global)) (old new sunk_old sunk_new : Option (Lis
       go : (stop : Stop) → IsWithoutVerdict old new sunk_old sunk_new stop ⊎ (stop ≡ NoMemory) → IsFault stop
       go stop (inr e) = subst IsFault (sym e) tt
       go Words (inl w) = absurd w
-      go TooLong (inl w) = absurd (too_many old new sunk_old sunk_new bytes s.told w.0 s.within)
+      go TooLong (inl w) = absurd (too_many old new sunk_old sunk_new bytes s.stated w.0 s.within)
       go (Text fault) (inl w) = absurd w
       go Dimensions (inl w) = absurd w
       go ReadFault (inl w) = tt
@@ -228,7 +228,7 @@ module _ (words : List (String Global)) (old new sunk_old sunk_new : Option (Lis
       go : (stop : Stop) → IsWithoutReading task old new sunk_old sunk_new stop ⊎ (stop ≡ NoMemory) → IsFault stop
       go stop (inr e) = subst IsFault (sym e) tt
       go Words (inl w) = absurd w
-      go TooLong (inl w) = absurd (few_enough task old new bytes s.told s.within w.0)
+      go TooLong (inl w) = absurd (few_enough task old new bytes s.stated s.within w.0)
       go (Text fault) (inl w) = absurd w
       go Dimensions (inl w) = absurd w
       go ReadFault (inl w) = tt
@@ -269,7 +269,7 @@ module _ (words : List (String Global)) (old new sunk_old sunk_new : Option (Lis
   long_answered : IsLongInstance words old → (status : ℕ) (document : List ℕ)
       → IsAnswered words old new status document → ⊥
   long_answered l status document a =
-      let same : a.bytes ≡ l.bytes = taken_all old new a.bytes l.bytes l.told a.input.taken a.input.ended in
+      let same : a.bytes ≡ l.bytes = taken_all old new a.bytes l.bytes l.stated a.input.taken a.input.ended in
       let few = a.input.within in
       let past = l.past in
       omega (arith, ap length same, few, past)
@@ -277,7 +277,7 @@ module _ (words : List (String Global)) (old new sunk_old sunk_new : Option (Lis
   faulty_answered : (fault : TextFault) → IsFaultyText words old fault → (status : ℕ) (document : List ℕ)
       → IsAnswered words old new status document → ⊥
   faulty_answered fault l status document a =
-      let same : a.bytes ≡ l.bytes = taken_all old new a.bytes l.bytes l.told a.input.taken a.input.ended in
+      let same : a.bytes ≡ l.bytes = taken_all old new a.bytes l.bytes l.stated a.input.taken a.input.ended in
       let wrong = l.wrong in
       let read = a.read in
       absurd (cc (same, wrong, read))
@@ -308,7 +308,7 @@ module _ (words : List (String Global)) (old new sunk_old sunk_new : Option (Lis
   refusable_done TooLong (inr (inl l)) status (inl w) =
       one_job words w.answered.job w.answered.settings w.answered.asked l.asks
   refusable_done TooLong (inr (inl l)) status (inr (inl c)) =
-      found_within old new l.bytes l.told l.past l.none c.1.verdict c.1.found
+      found_within old new l.bytes l.stated l.past l.none c.1.verdict c.1.found
   refusable_done TooLong (inr (inl l)) status (inr (inr (inl m))) = no_check words m.number m.settings m.asked l.asks
   refusable_done TooLong (inr (inl l)) status (inr (inr (inr (inl a)))) = task_checks words a.0 l.asks a.1
   refusable_done TooLong (inr (inl l)) status (inr (inr (inr (inr (inl f))))) =
@@ -361,7 +361,7 @@ module _ (words : List (String Global)) (old new sunk_old sunk_new : Option (Lis
   long_ends l TooLong s = inl refl
   long_ends l (Text fault) s =
       let (bytes, input, wrong) = s.1 in
-      let same : bytes ≡ l.bytes = taken_all old new bytes l.bytes l.told input.taken input.ended in
+      let same : bytes ≡ l.bytes = taken_all old new bytes l.bytes l.stated input.taken input.ended in
       let few = input.within in
       let past = l.past in
       absurd (omega (arith, ap length same, few, past))
@@ -378,7 +378,7 @@ module _ (words : List (String Global)) (old new sunk_old sunk_new : Option (Lis
   long_document_ends l (Text fault) (inl w) = absurd w
   long_document_ends l Dimensions (inl w) = absurd w
   long_document_ends l ReadFault (inl w) = inr (inl refl)
-  long_document_ends l WriteFault (inl w) = absurd (found_within old new l.bytes l.told l.past l.none w.verdict w.found)
+  long_document_ends l WriteFault (inl w) = absurd (found_within old new l.bytes l.stated l.past l.none w.verdict w.found)
   long_document_ends l NoMemory (inl w) = inr (inr refl)
 
   long_reading_ends : (l : IsLongReading words old) → (end : Stop)
@@ -390,7 +390,7 @@ module _ (words : List (String Global)) (old new sunk_old sunk_new : Option (Lis
   long_reading_ends l Dimensions (inl w) = absurd w
   long_reading_ends l ReadFault (inl w) = inr (inl refl)
   long_reading_ends l WriteFault (inl w) =
-      absurd (past_taken l.task old new l.bytes l.told l.past w.bytes w.input)
+      absurd (past_taken l.task old new l.bytes l.stated l.past w.bytes w.input)
   long_reading_ends l NoMemory (inl w) = inr (inr refl)
 
   faulty_ends : (fault : TextFault) → IsFaultyText words old fault → (end : Stop)
@@ -399,11 +399,11 @@ module _ (words : List (String Global)) (old new sunk_old sunk_new : Option (Lis
   faulty_ends fault l TooLong s =
       let (bytes, gives, past, most) = s.1 in
       let few = l.within in
-      let t = taken_within old new bytes l.bytes l.told gives in
+      let t = taken_within old new bytes l.bytes l.stated gives in
       absurd (omega (arith, t, past, few))
   faulty_ends fault l (Text other) s =
       let (bytes, input, wrong) = s.1 in
-      let same : bytes ≡ l.bytes = taken_all old new bytes l.bytes l.told input.taken input.ended in
+      let same : bytes ≡ l.bytes = taken_all old new bytes l.bytes l.stated input.taken input.ended in
       let mine = l.wrong in
       let one : other ≡ fault = cc (same, wrong, mine) in
       inl (ap (λ f. Text f) one)
@@ -454,10 +454,10 @@ module _ (words : List (String Global)) (old new sunk_old sunk_new : Option (Lis
       → IsJobAborted words old new sunk_old sunk_new end
       → (Told : List ℕ → Type 0) → Told (message_of end) → ((status ≡ 2) × Told (message_of stop))
       ⊎ ((status ≡ 4) ⊎ (status ≡ 6))
-  refuses stop l end status is undone Told told = go (refusable_ends stop l end undone)
+  refuses stop l end status is undone Told stated = go (refusable_ends stop l end undone)
     where
       go : EndsFor stop end → ((status ≡ 2) × Told (message_of stop)) ⊎ ((status ≡ 4) ⊎ (status ≡ 6))
-      go (inl e) = inl (is ∙ ap stop_status e ∙ two stop l, subst (λ s. Told (message_of s)) e told)
+      go (inl e) = inl (is ∙ ap stop_status e ∙ two stop l, subst (λ s. Told (message_of s)) e stated)
       go (inr (inl e)) = inr (inl (is ∙ ap stop_status e))
       go (inr (inr e)) = inr (inr (is ∙ ap stop_status e))
 

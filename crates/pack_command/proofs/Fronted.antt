@@ -63,24 +63,24 @@ module _ (words : List (String Global)) (old new sunk_old sunk_new : Option (Lis
   module _ (settings : Settings) (instance : PlainInstance) (s : IsFrontRun words old settings instance) where
     never_long : (bytes : List ℕ) → old ≡ Some bytes → length bytes ≤ 1048576
         → IsWithoutFront words old new sunk_old sunk_new TooLong → ⊥
-    never_long told is few w =
+    never_long stated is few w =
         let (bytes, gives, past, most) = w.0 in
-        let l = taken_within old new bytes told is gives in
+        let l = taken_within old new bytes stated is gives in
         omega (arith, l, past, few)
 
     pub front_never_stops : (stop : Stop) → IsWithoutFront words old new sunk_old sunk_new stop ⊎ (stop ≡ NoMemory)
         → ¬ (stop ≡ ReadFault) → ¬ (stop ≡ WriteFault) → ¬ (stop ≡ NoMemory) → ⊥
     front_never_stops stop (inr e) r w m = m e
     front_never_stops Words (inl s) r w m = s
-    front_never_stops TooLong (inl t) r w m = never_long s.bytes s.told s.within t
+    front_never_stops TooLong (inl t) r w m = never_long s.bytes s.stated s.within t
     front_never_stops (Text fault) (inl t) r w m =
         let (bytes, input, wrong) = t.0 in
-        let same : bytes ≡ s.bytes = taken_all old new bytes s.bytes s.told input.taken input.ended in
+        let same : bytes ≡ s.bytes = taken_all old new bytes s.bytes s.stated input.taken input.ended in
         let read = s.read in
         absurd (cc (same, wrong, read))
     front_never_stops Dimensions (inl t) r w m =
         let o = t.0 in
-        let same : o.bytes ≡ s.bytes = taken_all old new o.bytes s.bytes s.told o.input.taken o.input.ended in
+        let same : o.bytes ≡ s.bytes = taken_all old new o.bytes s.bytes s.stated o.input.taken o.input.ended in
         let one = o.read in
         let two = s.read in
         let is : o.instance ≡ instance = cc (same, one, two) in
@@ -94,7 +94,7 @@ module _ (words : List (String Global)) (old new sunk_old sunk_new : Option (Lis
   long_answered : IsLongFront words old → (settings : Settings) (instance : PlainInstance)
       → IsFrontAnswered words old new settings instance → ⊥
   long_answered l settings instance a =
-      let same : a.bytes ≡ l.bytes = taken_all old new a.bytes l.bytes l.told a.input.taken a.input.ended in
+      let same : a.bytes ≡ l.bytes = taken_all old new a.bytes l.bytes l.stated a.input.taken a.input.ended in
       let few = a.input.within in
       let past = l.past in
       omega (arith, ap length same, few, past)
@@ -102,7 +102,7 @@ module _ (words : List (String Global)) (old new sunk_old sunk_new : Option (Lis
   faulty_answered : (fault : TextFault) → IsFaultyFront words old fault
       → (settings : Settings) (instance : PlainInstance) → IsFrontAnswered words old new settings instance → ⊥
   faulty_answered fault l settings instance a =
-      let same : a.bytes ≡ l.bytes = taken_all old new a.bytes l.bytes l.told a.input.taken a.input.ended in
+      let same : a.bytes ≡ l.bytes = taken_all old new a.bytes l.bytes l.stated a.input.taken a.input.ended in
       let wrong = l.wrong in
       let read = a.read in
       absurd (cc (same, wrong, read))
@@ -110,7 +110,7 @@ module _ (words : List (String Global)) (old new sunk_old sunk_new : Option (Lis
   other_answered : IsOtherFront words old → (settings : Settings) (instance : PlainInstance)
       → IsFrontAnswered words old new settings instance → ⊥
   other_answered l settings instance a =
-      let same : a.bytes ≡ l.bytes = taken_all old new a.bytes l.bytes l.told a.input.taken a.input.ended in
+      let same : a.bytes ≡ l.bytes = taken_all old new a.bytes l.bytes l.stated a.input.taken a.input.ended in
       let one = a.read in
       let two = l.read in
       let is : l.instance ≡ instance = cc (same, one, two) in
@@ -137,13 +137,13 @@ module _ (words : List (String Global)) (old new sunk_old sunk_new : Option (Lis
   front_long_ends l TooLong (inl s) = inl refl
   front_long_ends l (Text fault) (inl s) =
       let (bytes, input, wrong) = s.0 in
-      let same : bytes ≡ l.bytes = taken_all old new bytes l.bytes l.told input.taken input.ended in
+      let same : bytes ≡ l.bytes = taken_all old new bytes l.bytes l.stated input.taken input.ended in
       let few = input.within in
       let past = l.past in
       absurd (omega (arith, ap length same, few, past))
   front_long_ends l Dimensions (inl s) =
       let o = s.0 in
-      let same : o.bytes ≡ l.bytes = taken_all old new o.bytes l.bytes l.told o.input.taken o.input.ended in
+      let same : o.bytes ≡ l.bytes = taken_all old new o.bytes l.bytes l.stated o.input.taken o.input.ended in
       let few = o.input.within in
       let past = l.past in
       absurd (omega (arith, ap length same, few, past))
@@ -159,17 +159,17 @@ module _ (words : List (String Global)) (old new sunk_old sunk_new : Option (Lis
   front_faulty_ends fault l TooLong (inl s) =
       let (bytes, gives, past, most) = s.0 in
       let few = l.within in
-      let t = taken_within old new bytes l.bytes l.told gives in
+      let t = taken_within old new bytes l.bytes l.stated gives in
       absurd (omega (arith, t, past, few))
   front_faulty_ends fault l (Text other) (inl s) =
       let (bytes, input, wrong) = s.0 in
-      let same : bytes ≡ l.bytes = taken_all old new bytes l.bytes l.told input.taken input.ended in
+      let same : bytes ≡ l.bytes = taken_all old new bytes l.bytes l.stated input.taken input.ended in
       let mine = l.wrong in
       let one : other ≡ fault = cc (same, wrong, mine) in
       inl (ap (λ f. Text f) one)
   front_faulty_ends fault l Dimensions (inl s) =
       let o = s.0 in
-      let same : o.bytes ≡ l.bytes = taken_all old new o.bytes l.bytes l.told o.input.taken o.input.ended in
+      let same : o.bytes ≡ l.bytes = taken_all old new o.bytes l.bytes l.stated o.input.taken o.input.ended in
       let wrong = l.wrong in
       let read = o.read in
       absurd (cc (same, wrong, read))
@@ -184,11 +184,11 @@ module _ (words : List (String Global)) (old new sunk_old sunk_new : Option (Lis
   front_other_ends l TooLong (inl s) =
       let (bytes, gives, past, most) = s.0 in
       let few = l.within in
-      let t = taken_within old new bytes l.bytes l.told gives in
+      let t = taken_within old new bytes l.bytes l.stated gives in
       absurd (omega (arith, t, past, few))
   front_other_ends l (Text fault) (inl s) =
       let (bytes, input, wrong) = s.0 in
-      let same : bytes ≡ l.bytes = taken_all old new bytes l.bytes l.told input.taken input.ended in
+      let same : bytes ≡ l.bytes = taken_all old new bytes l.bytes l.stated input.taken input.ended in
       let read = l.read in
       absurd (cc (same, wrong, read))
   front_other_ends l Dimensions (inl s) = inl refl

@@ -151,8 +151,8 @@ made_told number settings status is =
 -- a budget that bounds the count is enough
 made_enough : (number : ℕ) (settings : Settings) (status : ℕ) → IsToldBy (made_instance number) settings status
     → class_bound (made_instance number) ≤ settings.budget + 1 → ¬ (status ≡ 3)
-made_enough number settings status told enough three =
-    let past = told.undecided.0 three in
+made_enough number settings status stated enough three =
+    let past = stated.undecided.0 three in
     let bound = class_count (made_instance number)
     (some_dimension (made_instance number) (written_internal (made_instance number) (made_within number))) []
     settings.scales in
@@ -185,14 +185,14 @@ module _ (words : List (String Global)) (old new sunk_old sunk_new : Option (Lis
       let m = made_done status done in
       let same = same_made m.number m.settings m.asked in
       let is : status ≡ (made_for number settings).status = m.status_is ∙ ap (λ (a : JobAnswer). a.status) same in
-      let told = made_told number settings status is in
+      let stated = made_told number settings status is in
       record {
         status_is = is;
         written = subst (λ (a : JobAnswer). Appended sunk_old sunk_new a.text) same m.written;
-        yes = told.yes;
-        no = told.no;
-        undecided = told.undecided;
-        enough = made_enough number settings status told;
+        yes = stated.yes;
+        no = stated.no;
+        undecided = stated.undecided;
+        enough = made_enough number settings status stated;
       }
 
   solves : Asks words → ⊥

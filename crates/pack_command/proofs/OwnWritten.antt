@@ -94,12 +94,12 @@ own_text (Reduces job) settings instance limits sunk_old sunk_new gains = record
 }
 
 pub own_written : (words : List (String Global)) (old new sunk_old sunk_new : Option (List ℕ)) (status : ℕ)
-    (settings : Settings) (told : List ℕ) (instance : PlainInstance)
-    → IsWritten words old new sunk_old sunk_new status → old ≡ Some told → text_instance told ≡ Ok instance
+    (settings : Settings) (stated : List ℕ) (instance : PlainInstance)
+    → IsWritten words old new sunk_old sunk_new status → old ≡ Some stated → text_instance stated ≡ Ok instance
     → (job : DocumentJob) → AsksToSolve words job settings
     → IsOutputVerified job instance sunk_old sunk_new status
-own_written words old new sunk_old sunk_new status settings told instance w is read job asks =
-    let a = written_answers words old new sunk_old sunk_new status settings told instance w is read job asks in
-    let limits = written_limits words old new sunk_old sunk_new status settings told instance w is read in
+own_written words old new sunk_old sunk_new status settings stated instance w is read job asks =
+    let a = written_answers words old new sunk_old sunk_new status settings stated instance w is read job asks in
+    let limits = written_limits words old new sunk_old sunk_new status settings stated instance w is read in
     let own = own_text job settings instance limits sunk_old sunk_new a.1 in
     rw a.0 own

@@ -56,7 +56,7 @@ module _ (words : List (String Global)) (old new sunk_old sunk_new : Option (Lis
   same_instance : w.instance ≡ instance
   same_instance =
       let a = w.answered in
-      let same : a.bytes ≡ s.bytes = taken_all old new a.bytes s.bytes s.told a.input.taken a.input.ended in
+      let same : a.bytes ≡ s.bytes = taken_all old new a.bytes s.bytes s.stated a.input.taken a.input.ended in
       let one = a.read in
       let two = s.read in
       cc (same, one, two)

@@ -67,9 +67,9 @@ module _ (words : List (String Global)) (old new sunk_old sunk_new : Option (Lis
       (s : IsProposalRun words old job settings instance) where
     never_long : (bytes : List ℕ) → old ≡ Some bytes → length bytes ≤ 1048576
         → IsWithoutProposed words old new sunk_old sunk_new TooLong → ⊥
-    never_long told is few w =
+    never_long stated is few w =
         let (bytes, gives, past, most) = w.0 in
-        let l = taken_within old new bytes told is gives in
+        let l = taken_within old new bytes stated is gives in
         omega (arith, l, past, few)
 
     pub proposed_never_stops : (stop : Stop) → IsWithoutProposed words old new sunk_old sunk_new stop
@@ -77,10 +77,10 @@ module _ (words : List (String Global)) (old new sunk_old sunk_new : Option (Lis
         → ¬ (stop ≡ ReadFault) → ¬ (stop ≡ WriteFault) → ¬ (stop ≡ NoMemory) → ⊥
     proposed_never_stops stop (inr e) r w m = m e
     proposed_never_stops Words (inl s) r w m = s
-    proposed_never_stops TooLong (inl t) r w m = never_long s.bytes s.told s.within t
+    proposed_never_stops TooLong (inl t) r w m = never_long s.bytes s.stated s.within t
     proposed_never_stops (Text fault) (inl t) r w m =
         let (bytes, input, wrong) = t.0 in
-        let same : bytes ≡ s.bytes = taken_all old new bytes s.bytes s.told input.taken input.ended in
+        let same : bytes ≡ s.bytes = taken_all old new bytes s.bytes s.stated input.taken input.ended in
         let read = s.read in
         absurd (cc (same, wrong, read))
     proposed_never_stops Dimensions (inl t) r w m = t
@@ -94,7 +94,7 @@ module _ (words : List (String Global)) (old new sunk_old sunk_new : Option (Lis
       → (job : ProposedJob) (settings : Settings) (instance : PlainInstance) (status : ℕ) (document : List ℕ)
       → IsProposedAnswered words old new job settings instance status document → ⊥
   long_answered l job settings instance status document a =
-      let same : a.bytes ≡ l.bytes = taken_all old new a.bytes l.bytes l.told a.input.taken a.input.ended in
+      let same : a.bytes ≡ l.bytes = taken_all old new a.bytes l.bytes l.stated a.input.taken a.input.ended in
       let few = a.input.within in
       let past = l.past in
       omega (arith, ap length same, few, past)
@@ -103,7 +103,7 @@ module _ (words : List (String Global)) (old new sunk_old sunk_new : Option (Lis
       → (job : ProposedJob) (settings : Settings) (instance : PlainInstance) (status : ℕ) (document : List ℕ)
       → IsProposedAnswered words old new job settings instance status document → ⊥
   faulty_answered fault l job settings instance status document a =
-      let same : a.bytes ≡ l.bytes = taken_all old new a.bytes l.bytes l.told a.input.taken a.input.ended in
+      let same : a.bytes ≡ l.bytes = taken_all old new a.bytes l.bytes l.stated a.input.taken a.input.ended in
       let wrong = l.wrong in
       let read = a.read in
       absurd (cc (same, wrong, read))
@@ -127,7 +127,7 @@ module _ (words : List (String Global)) (old new sunk_old sunk_new : Option (Lis
   proposed_long_ends l TooLong (inl s) = inl refl
   proposed_long_ends l (Text fault) (inl s) =
       let (bytes, input, wrong) = s.0 in
-      let same : bytes ≡ l.bytes = taken_all old new bytes l.bytes l.told input.taken input.ended in
+      let same : bytes ≡ l.bytes = taken_all old new bytes l.bytes l.stated input.taken input.ended in
       let few = input.within in
       let past = l.past in
       absurd (omega (arith, ap length same, few, past))
@@ -144,11 +144,11 @@ module _ (words : List (String Global)) (old new sunk_old sunk_new : Option (Lis
   proposed_faulty_ends fault l TooLong (inl s) =
       let (bytes, gives, past, most) = s.0 in
       let few = l.within in
-      let t = taken_within old new bytes l.bytes l.told gives in
+      let t = taken_within old new bytes l.bytes l.stated gives in
       absurd (omega (arith, t, past, few))
   proposed_faulty_ends fault l (Text other) (inl s) =
       let (bytes, input, wrong) = s.0 in
-      let same : bytes ≡ l.bytes = taken_all old new bytes l.bytes l.told input.taken input.ended in
+      let same : bytes ≡ l.bytes = taken_all old new bytes l.bytes l.stated input.taken input.ended in
       let mine = l.wrong in
       let one : other ≡ fault = cc (same, wrong, mine) in
       inl (ap (λ f. Text f) one)

@@ -41,20 +41,20 @@ ok_same : {A B : Type 0} (x y : A) (r : Result A B) → r ≡ Ok x → r ≡ Ok 
 ok_same x y r e f = cc
 
 -- what was taken up to the end is all that the source held
-pub taken_all : (old new : Option (List ℕ)) (bytes told : List ℕ) → old ≡ Some told → Consumed old new bytes → IsAtEnd new
-    → bytes ≡ told
-taken_all old None bytes told is gives end = absurd (cc (is, gives))
-taken_all old (Some rest) bytes told is gives end =
-    let whole : bytes ++ rest ≡ told = some_inj (sym gives ∙ is) in
+pub taken_all : (old new : Option (List ℕ)) (bytes stated : List ℕ) → old ≡ Some stated → Consumed old new bytes → IsAtEnd new
+    → bytes ≡ stated
+taken_all old None bytes stated is gives end = absurd (cc (is, gives))
+taken_all old (Some rest) bytes stated is gives end =
+    let whole : bytes ++ rest ≡ stated = some_inj (sym gives ∙ is) in
     let none : bytes ++ rest ≡ bytes = ap (λ r. bytes ++ r) end ∙ append-nil bytes in
     sym none ∙ whole
 
 -- no more can be taken than the source held
-pub taken_within : (old new : Option (List ℕ)) (bytes told : List ℕ) → old ≡ Some told → Consumed old new bytes
-    → length bytes ≤ length told
-taken_within old None bytes told is gives = absurd (cc (is, gives))
-taken_within old (Some rest) bytes told is gives =
-    let whole : bytes ++ rest ≡ told = some_inj (sym gives ∙ is) in
+pub taken_within : (old new : Option (List ℕ)) (bytes stated : List ℕ) → old ≡ Some stated → Consumed old new bytes
+    → length bytes ≤ length stated
+taken_within old None bytes stated is gives = absurd (cc (is, gives))
+taken_within old (Some rest) bytes stated is gives =
+    let whole : bytes ++ rest ≡ stated = some_inj (sym gives ∙ is) in
     omega (arith, ap length whole, length-append bytes rest)
 
 -- the words ask for one job
@@ -72,14 +72,14 @@ settings_same words j k a b x y =
     sym x.with_settings ∙ ap (λ (w : JobWords). w.settings) same ∙ y.with_settings
 
 module _ (words : List (String Global)) (old new sunk_old sunk_new : Option (List ℕ)) (status : ℕ) (settings : Settings)
-    (told : List ℕ) (instance : PlainInstance)
-    (w : IsWritten words old new sunk_old sunk_new status) (is : old ≡ Some told)
-    (read : text_instance told ≡ Ok instance) where
+    (stated : List ℕ) (instance : PlainInstance)
+    (w : IsWritten words old new sunk_old sunk_new status) (is : old ≡ Some stated)
+    (read : text_instance stated ≡ Ok instance) where
   same_instance : (w.answered).instance ≡ instance
   same_instance =
       let a = w.answered in
-      let bytes_are : a.bytes ≡ told = taken_all old new a.bytes told is a.input.taken a.input.ended in
-      let read_told : text_instance told ≡ Ok a.instance =
+      let bytes_are : a.bytes ≡ stated = taken_all old new a.bytes stated is a.input.taken a.input.ended in
+      let read_told : text_instance stated ≡ Ok a.instance =
       subst (λ b. text_instance b ≡ Ok a.instance) bytes_are a.read in
       ok_same _ _ _ read_told read
 

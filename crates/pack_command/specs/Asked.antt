@@ -144,21 +144,21 @@ pub record IsSolving (words : List (String Global)) (left : Option (List ℕ)) (
     (instance : PlainInstance) : Type 0 where
   pub asks : AsksToSolve words job settings
   pub bytes : List ℕ
-  pub told : left ≡ Some bytes
+  pub stated : left ≡ Some bytes
   pub within : length bytes ≤ max_instance_bytes
   pub read : text_instance bytes ≡ Ok instance
 
 -- the words ask for `check`, and the input is these bytes
 pub record IsChecking (words : List (String Global)) (left : Option (List ℕ)) (bytes : List ℕ) : Type 0 where
   pub asks : AsksCheck words
-  pub told : left ≡ Some bytes
+  pub stated : left ≡ Some bytes
   pub within : length bytes ≤ max_check_bytes
 
 -- the words ask for this job, and the input is these bytes
 pub record IsReading (words : List (String Global)) (left : Option (List ℕ)) (task : DocumentTask) (bytes : List ℕ) :
     Type 0 where
   pub asks : AsksTask words task
-  pub told : left ≡ Some bytes
+  pub stated : left ≡ Some bytes
   pub within : AreFew task bytes
 
 -- the words ask for `audit`, or for `explain`, and the input is these bytes
@@ -173,7 +173,7 @@ pub record IsFrontRun (words : List (String Global)) (left : Option (List ℕ)) 
     (instance : PlainInstance) : Type 0 where
   pub asks : AsksFront words settings
   pub bytes : List ℕ
-  pub told : left ≡ Some bytes
+  pub stated : left ≡ Some bytes
   pub within : length bytes ≤ max_instance_bytes
   pub read : text_instance bytes ≡ Ok instance
   pub plane : dims instance ≡ 2
@@ -183,7 +183,7 @@ pub record IsProposalRun (words : List (String Global)) (left : Option (List ℕ
     (instance : PlainInstance) : Type 0 where
   pub asks : AsksProposed words job settings
   pub bytes : List ℕ
-  pub told : left ≡ Some bytes
+  pub stated : left ≡ Some bytes
   pub within : length bytes ≤ max_instance_bytes
   pub read : text_instance bytes ≡ Ok instance
 
@@ -209,7 +209,7 @@ pub record IsLongInstance (words : List (String Global)) (left : Option (List �
   pub settings : Settings
   pub asks : AsksToSolve words job settings
   pub bytes : List ℕ
-  pub told : left ≡ Some bytes
+  pub stated : left ≡ Some bytes
   pub past : max_instance_bytes < length bytes
 
 -- more bytes come for `check` than a document may have, and no line that is whole within these is
@@ -217,7 +217,7 @@ pub record IsLongInstance (words : List (String Global)) (left : Option (List �
 pub record IsLongDocument (words : List (String Global)) (left : Option (List ℕ)) : Type 0 where
   pub asks : AsksCheck words
   pub bytes : List ℕ
-  pub told : left ≡ Some bytes
+  pub stated : left ≡ Some bytes
   pub past : max_check_bytes < length bytes
   pub none : NoneRefused (take max_check_bytes bytes)
 
@@ -226,7 +226,7 @@ pub record IsLongReading (words : List (String Global)) (left : Option (List ℕ
   pub task : DocumentTask
   pub asks : AsksTask words task
   pub bytes : List ℕ
-  pub told : left ≡ Some bytes
+  pub stated : left ≡ Some bytes
   pub past : ArePast task bytes
 
 -- the words ask for a solving job, and the input has this fault
@@ -235,7 +235,7 @@ pub record IsFaultyText (words : List (String Global)) (left : Option (List ℕ)
   pub settings : Settings
   pub asks : AsksToSolve words job settings
   pub bytes : List ℕ
-  pub told : left ≡ Some bytes
+  pub stated : left ≡ Some bytes
   pub within : length bytes ≤ max_instance_bytes
   pub wrong : text_instance bytes ≡ Err fault
 
@@ -244,7 +244,7 @@ pub record IsLongFront (words : List (String Global)) (left : Option (List ℕ))
   pub settings : Settings
   pub asks : AsksFront words settings
   pub bytes : List ℕ
-  pub told : left ≡ Some bytes
+  pub stated : left ≡ Some bytes
   pub past : max_instance_bytes < length bytes
 
 -- the words ask for `front`, and the input has this fault
@@ -252,7 +252,7 @@ pub record IsFaultyFront (words : List (String Global)) (left : Option (List ℕ
   pub settings : Settings
   pub asks : AsksFront words settings
   pub bytes : List ℕ
-  pub told : left ≡ Some bytes
+  pub stated : left ≡ Some bytes
   pub within : length bytes ≤ max_instance_bytes
   pub wrong : text_instance bytes ≡ Err fault
 
@@ -261,7 +261,7 @@ pub record IsOtherFront (words : List (String Global)) (left : Option (List ℕ)
   pub settings : Settings
   pub asks : AsksFront words settings
   pub bytes : List ℕ
-  pub told : left ≡ Some bytes
+  pub stated : left ≡ Some bytes
   pub within : length bytes ≤ max_instance_bytes
   pub instance : PlainInstance
   pub read : text_instance bytes ≡ Ok instance
@@ -273,7 +273,7 @@ pub record IsLongProposed (words : List (String Global)) (left : Option (List �
   pub settings : Settings
   pub asks : AsksProposed words job settings
   pub bytes : List ℕ
-  pub told : left ≡ Some bytes
+  pub stated : left ≡ Some bytes
   pub past : max_instance_bytes < length bytes
 
 -- the words ask for a job with proposals, and the input has this fault
@@ -282,7 +282,7 @@ pub record IsFaultyProposed (words : List (String Global)) (left : Option (List 
   pub settings : Settings
   pub asks : AsksProposed words job settings
   pub bytes : List ℕ
-  pub told : left ≡ Some bytes
+  pub stated : left ≡ Some bytes
   pub within : length bytes ≤ max_instance_bytes
   pub wrong : text_instance bytes ≡ Err fault
 

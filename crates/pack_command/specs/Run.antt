@@ -68,4 +68,4 @@ pub record IsWritten (words : List (String Global)) (old new sunk_old sunk_new :
 -- the message is written whole, unless a write of the sink fails, which is the last one then
 abbrev pub IsMessageWritten : (sunk_old sunk_new : Option (List ℕ)) → FaultCount → FaultCount → List ℕ → Type 0
 IsMessageWritten sunk_old sunk_new before now message =
-    (told : Result (Unit {0}) WriteFailed) × Writes sunk_old sunk_new before now message told
+    (stated : Result (Unit {0}) WriteFailed) × Writes sunk_old sunk_new before now message stated

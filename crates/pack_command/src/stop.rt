@@ -67,6 +67,6 @@ fn write_text_fault<E: Sink>(err: &mut E, fault: TextFault) -> Result<(), WriteF
     let named = write_on(err, Ok(()), b"pack: line ");
     let numbered = write_number(err, named, fault.line);
     let coded = write_on(err, numbered, b": code ");
-    let told = write_number(err, coded, fault.code as u64);
-    write_on(err, told, b"\n")
+    let written = write_number(err, coded, fault.code as u64);
+    write_on(err, written, b"\n")
 }

@@ -36,8 +36,8 @@ pub(crate) fn reads_all_and_prints<R: AllocGlobal + Threads + Wait + Sync>(
     status: u8,
     lines: &str,
 ) -> Result<bool, AllocError> {
-    let told = run_on(rt, words, input)?;
-    Ok(told.is_line(status, lines) && told.left.is_empty())
+    let answer = run_on(rt, words, input)?;
+    Ok(answer.is_line(status, lines) && answer.left.is_empty())
 }
 
 /// Whether a run of the words on the input ends with this status and writes these bytes alone.
@@ -84,8 +84,8 @@ pub(crate) fn stops_writing<R: AllocGlobal + Threads + Wait + Sync>(
     if count > document.len() {
         return Ok(false);
     }
-    let told = run_with_write_fault(rt, words, input, count)?;
-    Ok(told.is_stop(5, "pack: write fault\n", &document[..count]))
+    let answer = run_with_write_fault(rt, words, input, count)?;
+    Ok(answer.is_stop(5, "pack: write fault\n", &document[..count]))
 }
 
 /// Whether a run of the words on the input answers, and writes a document of 128 boxes that ends
@@ -96,12 +96,12 @@ pub(crate) fn has_128_boxes<R: AllocGlobal + Threads + Wait + Sync>(
     input: &[u8],
     end: &[u8],
 ) -> Result<bool, AllocError> {
-    let told = run_on(rt, words, input)?;
+    let answer = run_on(rt, words, input)?;
     Ok(
-        told.status == 0
-            && told.lines_from(b'b') == 128
-            && told.lines_from(b'r') == 1
-            && told.out.ends_with(end),
+        answer.status == 0
+            && answer.lines_from(b'b') == 128
+            && answer.lines_from(b'r') == 1
+            && answer.out.ends_with(end),
     )
 }
 
@@ -114,6 +114,6 @@ pub(crate) fn matches_one_worker<R: AllocGlobal + Threads + Wait + Sync, G: Gate
     input: &[u8],
     gate: &G,
 ) -> Result<bool, AllocError> {
-    let told = run_with_workers(rt, words, workers, input, gate)?;
-    Ok(told.is_as(&run_with_workers(rt, words, "1", input, &NoGate)?))
+    let answer = run_with_workers(rt, words, workers, input, gate)?;
+    Ok(answer.is_as(&run_with_workers(rt, words, "1", input, &NoGate)?))
 }

@@ -29,8 +29,8 @@ fn leaves_the_rest<R: AllocGlobal + Threads + Wait + Sync>(
     rt: &R,
     reads: &[ReadStep],
 ) -> Result<bool, Fail> {
-    let told = run_with_plans(rt, CHECK, FORM, reads, &[])?;
-    Ok(told.is_line(1, "refused 1 form\n") && told.left.as_slice() == b"format 1\n".as_slice())
+    let answer = run_with_plans(rt, CHECK, FORM, reads, &[])?;
+    Ok(answer.is_line(1, "refused 1 form\n") && answer.left.as_slice() == b"format 1\n".as_slice())
 }
 
 #[test]

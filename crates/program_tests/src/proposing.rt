@@ -159,10 +159,10 @@ fn is_verified<R: AllocGlobal + Threads + Wait + Sync>(
     row: &Verified,
 ) -> Result<bool, Fail> {
     let (words, shared, text, status, line) = *row;
-    let told = run_on(rt, words, text)?;
-    let is_same = writes(rt, shared, text, status, &told.out)?;
-    let is_checked = tells(rt, &["check"], &told.out, 0, line)?;
-    Ok(told.status == status && is_same && is_checked)
+    let answer = run_on(rt, words, text)?;
+    let is_same = writes(rt, shared, text, status, &answer.out)?;
+    let is_checked = tells(rt, &["check"], &answer.out, 0, line)?;
+    Ok(answer.status == status && is_same && is_checked)
 }
 
 // Whichever packing or refutation is written, `check` verifies it, and workers have no part in it.

@@ -18,8 +18,8 @@ pub(crate) fn is_solved<R: AllocGlobal + Threads + Wait + Sync>(
     row: &Solved,
 ) -> Result<bool, AllocError> {
     let (words, text, status, rest) = *row;
-    let told = run_on(rt, words, text)?;
-    Ok(told.status == status && told.is_document(first, text, rest))
+    let answer = run_on(rt, words, text)?;
+    Ok(answer.status == status && answer.is_document(first, text, rest))
 }
 
 /// Whether `check` answers this status and writes the line of a row alone.

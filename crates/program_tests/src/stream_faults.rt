@@ -31,8 +31,8 @@ fn a_write_that_fails_at_each_byte_leaves_the_bytes_before(rt: HostRuntime) -> R
 #[test]
 fn a_write_that_would_fail_behind_the_document_is_no_fault(rt: HostRuntime) -> Result<(), Fail> {
     assert!(rt; TWO_BOXES_FIT.len() == 87);
-    let told = run_with_write_fault(&rt, &["fit"], TWO_BOXES, 87)?;
-    assert!(rt; told.is_stop(0, "", TWO_BOXES_FIT));
+    let answer = run_with_write_fault(&rt, &["fit"], TWO_BOXES, 87)?;
+    assert!(rt; answer.is_stop(0, "", TWO_BOXES_FIT));
     Ok(())
 }
 
@@ -55,15 +55,15 @@ fn leaves_bytes<R: AllocGlobal + Threads + Wait + Sync>(
     writes: &[WriteStep],
     count: usize,
 ) -> Result<bool, Fail> {
-    let told = run_with_plans(rt, words, text, &[], writes)?;
-    Ok(told.status == 5 && told.out.len() == count)
+    let answer = run_with_plans(rt, words, text, &[], writes)?;
+    Ok(answer.status == 5 && answer.out.len() == count)
 }
 
 #[test]
 fn a_failed_write_leaves_a_prefix(rt: HostRuntime) -> Result<(), Fail> {
     let plan = [WriteStep::Take(16), WriteStep::Fail];
-    let told = run_with_plans(&rt, &["fit"], TWO_BOXES, &[], &plan)?;
-    assert!(rt; told.is_stop(5, "pack: write fault\n", b"answer fit\nforma"));
+    let answer = run_with_plans(&rt, &["fit"], TWO_BOXES, &[], &plan)?;
+    assert!(rt; answer.is_stop(5, "pack: write fault\n", b"answer fit\nforma"));
     Ok(())
 }
 
@@ -85,8 +85,8 @@ fn is_read_fault<R: AllocGlobal + Threads + Wait + Sync>(
     rt: &R,
     reads: &[ReadStep],
 ) -> Result<bool, Fail> {
-    let told = run_with_plans(rt, &["fit"], UNIT, reads, &[])?;
-    Ok(told.is_stop(4, "pack: read fault\n", b""))
+    let answer = run_with_plans(rt, &["fit"], UNIT, reads, &[])?;
+    Ok(answer.is_stop(4, "pack: read fault\n", b""))
 }
 
 #[test]
@@ -109,7 +109,7 @@ const UNIT_FITS: &[u8] =
 fn input_in_single_bytes_gives_the_same_answer(rt: HostRuntime) -> Result<(), Fail> {
     let reads = [ReadStep::Give(1); 40];
     let writes = [WriteStep::Take(1); 99];
-    let told = run_with_plans(&rt, &["fit"], UNIT, &reads, &writes)?;
-    assert!(rt; told.is_as_written(0, UNIT_FITS));
+    let answer = run_with_plans(&rt, &["fit"], UNIT, &reads, &writes)?;
+    assert!(rt; answer.is_as_written(0, UNIT_FITS));
     Ok(())
 }

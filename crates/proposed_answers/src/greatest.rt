@@ -26,7 +26,7 @@ use work_share::{Gate, Settings};
 const PART: u64 = 8;
 
 // The answer by the bounds that were reached.
-fn told(instance: &Instance, top: u64, bounds: Bounds) -> Choice
+fn choice_of(instance: &Instance, top: u64, bounds: Bounds) -> Choice
     requires top { top ≡ top_value instance.now }
     requires order { bounds.refuted < bounds.placed }
     ensures { TellsValues instance.now (plain_bounds bounds) result }
@@ -169,5 +169,5 @@ pub fn greatest_value_proposed<R: Threads + Wait + Sync, G: Gate + Sync>(
         settings,
         gate,
     )?;
-    Ok(told(instance, top, bounds))
+    Ok(choice_of(instance, top, bounds))
 }

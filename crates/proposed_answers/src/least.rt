@@ -53,7 +53,7 @@ fn ample(settings: &Settings) -> Settings
 }
 
 // The answer by the bounds that were reached.
-fn told(bounds: Bounds) -> Bins
+fn bins_of(bounds: Bounds) -> Bins
     requires order { bounds.refuted < bounds.placed }
     requires limit { bounds.placed ≤ max_boxes }
     ensures { TellsBins (plain_bounds bounds) result }
@@ -124,7 +124,7 @@ fn narrowed<R: Threads + Wait + Sync, G: Gate + Sync>(
     let from = near.without_attempts();
     let ample = ample(settings);
     let bounds = narrow_bins(rt, alloc, &mut search, instance, from, &ample, gate)?;
-    Ok(told(bounds))
+    Ok(bins_of(bounds))
 }
 
 /// The least number of bins in which the boxes fit, with both certificates, by proposals first.

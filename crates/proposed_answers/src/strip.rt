@@ -19,7 +19,7 @@ use strip_solver::{Strip, least_height};
 use work_share::{Gate, Settings};
 
 // The answer by the bounds that were reached.
-fn told(bounds: Bounds) -> Strip
+fn strip_of(bounds: Bounds) -> Strip
     requires order { bounds.refuted < bounds.placed }
     requires limit { bounds.placed ≤ max_height }
     ensures { TellsHeights (plain_bounds bounds) result }
@@ -87,7 +87,7 @@ fn narrowed<R: Threads + Wait + Sync, G: Gate + Sync>(
     let _limits = instance.len();
     let ends = both_ends(rt, alloc, instance, first, settings, gate)?;
     let bounds = narrow_in_rounds(rt, alloc, instance, ends, settings, gate)?;
-    Ok(told(bounds))
+    Ok(strip_of(bounds))
 }
 
 /// The least height at which the boxes fit, with both certificates, by proposals first. The

@@ -71,7 +71,7 @@ fn bisect_heights<R: Threads + Wait + Sync, G: Gate + Sync>(
 }
 
 // The answer where a run of heights ended.
-fn told(reached: Reached) -> Strip
+fn strip_of(reached: Reached) -> Strip
     requires rising { reached.refuted < reached.placed }
     requires beside { reached.spent ≡ false → suc reached.refuted ≡ reached.placed }
     requires limit { reached.placed ≤ max_height }
@@ -117,7 +117,7 @@ fn least_from<R: Threads + Wait + Sync, G: Gate + Sync>(
         Some((box_no, dim)) => Ok(Strip::NoneFits { box_no, dim }),
         None => {
             let reached = bisect_heights(rt, alloc, instance, start, settings, gate)?;
-            Ok(told(reached))
+            Ok(strip_of(reached))
         }
     }
 }

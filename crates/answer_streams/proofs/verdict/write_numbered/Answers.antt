@@ -3,4 +3,4 @@ use Rattle.answer_streams.proofs.verdict.write_numbered.Goals as goal
 
 pub returns : goal.returns
 returns g c = more _ _ _ _ _ _ _ _ _ _ _ c.write_on-named.ensures.goes_on
-    (more _ _ _ _ _ _ _ _ _ _ _ c.write_number-told.ensures.goes_on c.write_on.ensures.goes_on)
+    (more _ _ _ _ _ _ _ _ _ _ _ c.write_number-numbered.ensures.goes_on c.write_on.ensures.goes_on)

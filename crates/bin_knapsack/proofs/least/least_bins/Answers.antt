@@ -14,22 +14,22 @@ returns-in-Some-clause-right g c =
     none_at_all c.args.instance.now _ _
     ((first_large_is c.args.instance.now c.in-Some.box_no c.in-Some.dim).0 (sym c.in-Some.ensures.value))
 
-pub told-requires-clause-rising : goal.told-requires-clause-rising
-told-requires-clause-rising g c =
+pub bins_of-requires-clause-rising : goal.bins_of-requires-clause-rising
+bins_of-requires-clause-rising g c =
     (ended c.args.instance.now c.len-limits.ensures.limits
     ((none_large_is c.args.instance.now).0 (sym c.in-None.ensures.value)) c.args.settings.now.budget
     c.args.settings.now.scales
     (plain_reached c.in_ok-reached-in-None.reached) c.in_ok-reached-in-None.ensures).order
 
-pub told-requires-clause-beside : goal.told-requires-clause-beside
-told-requires-clause-beside g c =
+pub bins_of-requires-clause-beside : goal.bins_of-requires-clause-beside
+bins_of-requires-clause-beside g c =
     (ended c.args.instance.now c.len-limits.ensures.limits
     ((none_large_is c.args.instance.now).0 (sym c.in-None.ensures.value)) c.args.settings.now.budget
     c.args.settings.now.scales
     (plain_reached c.in_ok-reached-in-None.reached) c.in_ok-reached-in-None.ensures).beside
 
-pub told-requires-clause-limit : goal.told-requires-clause-limit
-told-requires-clause-limit g c =
+pub bins_of-requires-clause-limit : goal.bins_of-requires-clause-limit
+bins_of-requires-clause-limit g c =
     placed_small c.args.instance.now c.len-limits.ensures.limits
     ((none_large_is c.args.instance.now).0 (sym c.in-None.ensures.value)) c.args.settings.now.budget
     c.args.settings.now.scales
@@ -41,7 +41,7 @@ returns-in_ok-reached-in-None-clause-answer g c =
     ((none_large_is c.args.instance.now).0 (sym c.in-None.ensures.value)) c.args.settings.now.budget
     c.args.settings.now.scales
     (plain_reached c.in_ok-reached-in-None.reached) c.in_ok-reached-in-None.ensures
-    c.told.result c.told.ensures
+    c.bins_of.result c.bins_of.ensures
 
 pub returns-in_ok-reached-in-None-clause-right : goal.returns-in_ok-reached-in-None-clause-right
 returns-in_ok-reached-in-None-clause-right g c =
@@ -49,7 +49,7 @@ returns-in_ok-reached-in-None-clause-right g c =
     ((none_large_is c.args.instance.now).0 (sym c.in-None.ensures.value)) c.args.settings.now.budget
     c.args.settings.now.scales
     (plain_reached c.in_ok-reached-in-None.reached) c.in_ok-reached-in-None.ensures
-    c.told.result c.told.ensures
+    c.bins_of.result c.bins_of.ensures
 
 pub returns-in_ok-reached-in-None-clause-spent : goal.returns-in_ok-reached-in-None-clause-spent
 returns-in_ok-reached-in-None-clause-spent g c =
@@ -57,7 +57,7 @@ returns-in_ok-reached-in-None-clause-spent g c =
     ((none_large_is c.args.instance.now).0 (sym c.in-None.ensures.value)) c.args.settings.now.budget
     c.args.settings.now.scales
     (plain_reached c.in_ok-reached-in-None.reached) c.in_ok-reached-in-None.ensures
-    c.told.result c.told.ensures
+    c.bins_of.result c.bins_of.ensures
 
 pub returns-in_ok-reached-in-None-clause-enough : goal.returns-in_ok-reached-in-None-clause-enough
 returns-in_ok-reached-in-None-clause-enough g c l =
@@ -65,4 +65,4 @@ returns-in_ok-reached-in-None-clause-enough g c l =
     ((none_large_is c.args.instance.now).0 (sym c.in-None.ensures.value)) c.args.settings.now.budget
     c.args.settings.now.scales
     (plain_reached c.in_ok-reached-in-None.reached) c.in_ok-reached-in-None.ensures
-    l c.told.result c.told.ensures
+    l c.bins_of.result c.bins_of.ensures

@@ -5,4 +5,4 @@ pub returns : goal.returns
 returns g c =
     (more _ _ _ _ _ _ _ _ _ _ _ (more _ _ _ _ _ _ _ _ _ _ _ (more _ _ _ _ _ _ _ _ _ _ _ (more _ _ _ _ _ _ _ _ _ _ _
     c.write_on-named.ensures.goes_on c.write_number-numbered.ensures.goes_on) c.write_on-coded.ensures.goes_on)
-    c.write_number-told.ensures.goes_on) c.write_on.ensures.goes_on).goes
+    c.write_number-written.ensures.goes_on) c.write_on.ensures.goes_on).goes

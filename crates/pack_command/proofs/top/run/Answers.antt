@@ -20,33 +20,33 @@ use Rattle.pack_command.proofs.top.run.Goals as goal
 pub returns-in-Ok-clause-decides : goal.returns-in-Ok-clause-decides
 returns-in-Ok-clause-decides g c = λ job settings instance asked answer.
     written_job _ _ _ _ _ _ settings asked.bytes instance
-    (solved_done _ _ _ _ _ _ job settings asked.asks c.in-Ok.ensures.answered) asked.told asked.read job asked.asks
+    (solved_done _ _ _ _ _ _ job settings asked.asks c.in-Ok.ensures.answered) asked.stated asked.read job asked.asks
 
 pub returns-in-Ok-clause-answers : goal.returns-in-Ok-clause-answers
 returns-in-Ok-clause-answers g c = λ job settings instance asked answer.
     written_answers _ _ _ _ _ _ settings asked.bytes instance
-    (solved_done _ _ _ _ _ _ job settings asked.asks c.in-Ok.ensures.answered) asked.told asked.read job asked.asks
+    (solved_done _ _ _ _ _ _ job settings asked.asks c.in-Ok.ensures.answered) asked.stated asked.read job asked.asks
 
 pub returns-in-Ok-clause-enough : goal.returns-in-Ok-clause-enough
 returns-in-Ok-clause-enough g c = λ job settings instance asked enough.
     written_enough _ _ _ _ _ _ settings asked.bytes instance
-    (solved_done _ _ _ _ _ _ job settings asked.asks c.in-Ok.ensures.answered) asked.told asked.read job
+    (solved_done _ _ _ _ _ _ job settings asked.asks c.in-Ok.ensures.answered) asked.stated asked.read job
     asked.asks enough
 
 pub returns-in-Ok-clause-fits : goal.returns-in-Ok-clause-fits
 returns-in-Ok-clause-fits g c = λ job settings instance asked fits answer enough.
     written_fits _ _ _ _ _ _ settings asked.bytes instance
-    (solved_done _ _ _ _ _ _ job settings asked.asks c.in-Ok.ensures.answered) asked.told asked.read job fits
+    (solved_done _ _ _ _ _ _ job settings asked.asks c.in-Ok.ensures.answered) asked.stated asked.read job fits
     asked.asks enough
 
 pub returns-in-Ok-clause-verified : goal.returns-in-Ok-clause-verified
 returns-in-Ok-clause-verified g c = λ job settings instance asked answer.
     own_written _ _ _ _ _ _ settings asked.bytes instance
-    (solved_done _ _ _ _ _ _ job settings asked.asks c.in-Ok.ensures.answered) asked.told asked.read job asked.asks
+    (solved_done _ _ _ _ _ _ job settings asked.asks c.in-Ok.ensures.answered) asked.stated asked.read job asked.asks
 
 pub returns-in-Ok-clause-check_exact : goal.returns-in-Ok-clause-check_exact
 returns-in-Ok-clause-check_exact g c =
-    λ bytes asked answer. judged_exactly _ _ _ _ _ bytes asked.told
+    λ bytes asked answer. judged_exactly _ _ _ _ _ bytes asked.stated
     (judged_done _ _ _ _ _ _ asked.asks c.in-Ok.ensures.answered)
 
 pub returns-in-Ok-clause-check_sound : goal.returns-in-Ok-clause-check_sound
@@ -55,12 +55,12 @@ returns-in-Ok-clause-check_sound g c =
 
 pub returns-in-Ok-clause-audit_exact : goal.returns-in-Ok-clause-audit_exact
 returns-in-Ok-clause-audit_exact g c =
-    λ bytes asked answer. exactly_read _ _ _ _ _ _ bytes asked.told
+    λ bytes asked answer. exactly_read _ _ _ _ _ _ bytes asked.stated
     (reading_done _ _ _ _ _ _ _ asked.asks c.in-Ok.ensures.answered)
 
 pub returns-in-Ok-clause-explains : goal.returns-in-Ok-clause-explains
 returns-in-Ok-clause-explains g c =
-    λ bytes asked answer. exactly_read _ _ _ _ _ _ bytes asked.told
+    λ bytes asked answer. exactly_read _ _ _ _ _ _ bytes asked.stated
     (reading_done _ _ _ _ _ _ _ asked.asks c.in-Ok.ensures.answered)
 
 pub returns-in-Ok-clause-audit_sound : goal.returns-in-Ok-clause-audit_sound

@@ -15,16 +15,16 @@ pub returns-clause-right : goal.returns-clause-right
 returns-clause-right g c =
     bounds_true c.args.instance.now c.len-limits.ensures.limits c.args.settings.now (plain_bounds c.in_ok-bounds.bounds)
     c.in_ok-bounds.ensures.kept
-    c.in_ok-bounds.ensures.narrow c.told.result c.told.ensures
+    c.in_ok-bounds.ensures.narrow c.choice_of.result c.choice_of.ensures
 
 pub returns-clause-limited : goal.returns-clause-limited
 returns-clause-limited g c =
     bounds_limited c.args.instance.now c.len-limits.ensures.limits c.args.settings.now
     (plain_bounds c.in_ok-bounds.bounds) c.in_ok-bounds.ensures.kept
-    c.in_ok-bounds.ensures.narrow c.told.result c.told.ensures
+    c.in_ok-bounds.ensures.narrow c.choice_of.result c.choice_of.ensures
 
 pub returns-clause-past : goal.returns-clause-past
 returns-clause-past g c =
     bounds_past c.args.instance.now c.len-limits.ensures.limits c.args.settings.now (plain_bounds c.in_ok-bounds.bounds)
     c.in_ok-bounds.ensures.kept
-    c.in_ok-bounds.ensures.narrow c.told.result c.told.ensures
+    c.in_ok-bounds.ensures.narrow c.choice_of.result c.choice_of.ensures

@@ -8,26 +8,26 @@ pub returns-clause-right : goal.returns-clause-right
 returns-clause-right g c =
     bounds_true c.args.instance.now c.len-limits.ensures.limits c.ample-ample.result (plain_bounds c.in_ok-bounds.bounds)
     c.in_ok-bounds.ensures.kept c.in_ok-bounds.ensures.narrow
-    c.told.result c.told.ensures
+    c.bins_of.result c.bins_of.ensures
 
 pub returns-clause-named : goal.returns-clause-named
 returns-clause-named g c =
     bounds_named c.args.instance.now c.len-limits.ensures.limits c.ample-ample.result
     (plain_bounds c.in_ok-bounds.bounds) c.in_ok-bounds.ensures.kept c.in_ok-bounds.ensures.narrow
-    c.requires.small c.told.result c.told.ensures
+    c.requires.small c.bins_of.result c.bins_of.ensures
 
 pub returns-clause-limited : goal.returns-clause-limited
 returns-clause-limited g c =
     bounds_limited c.args.instance.now c.len-limits.ensures.limits c.ample-ample.result
     (plain_bounds c.in_ok-bounds.bounds) c.in_ok-bounds.ensures.kept c.in_ok-bounds.ensures.narrow
-    c.told.result c.told.ensures
+    c.bins_of.result c.bins_of.ensures
 
 pub returns-clause-past : goal.returns-clause-past
 returns-clause-past g c =
     past_within c.args.instance.now c.args.settings.now.budget c.ample-ample.result.budget c.args.settings.now.scales
-    c.ample-ample.ensures.budget c.told.result
-    (subst (λ (s : Bool). AreNeighboursPastBudget c.args.instance.now c.ample-ample.result.budget s c.told.result)
+    c.ample-ample.ensures.budget c.bins_of.result
+    (subst (λ (s : Bool). AreNeighboursPastBudget c.args.instance.now c.ample-ample.result.budget s c.bins_of.result)
     c.ample-ample.ensures.scales
     (bounds_past c.args.instance.now c.len-limits.ensures.limits c.ample-ample.result
     (plain_bounds c.in_ok-bounds.bounds) c.in_ok-bounds.ensures.kept c.in_ok-bounds.ensures.narrow
-    c.told.result c.told.ensures))
+    c.bins_of.result c.bins_of.ensures))
