@@ -256,7 +256,8 @@ impl Instance {
         ensures { (i : ℕ) → i < dims self.now
             → slice_index result i ≡ container_side self.now i }
     {
-        self.limits
+        let row = &self.limits;
+        *row
     }
 
     /// A box's working sides, an entry for each dimension. What stands in entries beyond them isn't
@@ -266,7 +267,8 @@ impl Instance {
         requires { box_no < box_count self.now }
         ensures { (i : ℕ) → i < dims self.now → slice_index result i ≡ side self.now box_no i }
     {
-        self.working[box_no as usize]
+        let row = &self.working[box_no as usize];
+        *row
     }
 
     /// A bound on the working sides of the boxes in a dimension: none is longer. Of an instance
