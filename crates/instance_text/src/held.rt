@@ -73,8 +73,8 @@ impl HeldLine {
         }
     }
 
-    /// Makes it nothing of a line again. It blanks the words that are held, where a new value would
-    /// write all 12.
+    /// Clears the line in place: this blanks the words that are held, where a new value would write
+    /// all 12.
     pub fn clear(&mut self)
         ensures { self.new ≡ no_line }
     {
