@@ -1,6 +1,6 @@
 //! Weights of heaviest chains that a state keeps for its closings, with a log that restores those
 //! of the end of an earlier one.
-ghost use Rattle.std.specs.Prelude.{◌≡◌, ◌+◌, ◌-◌, ◌<◌, ◌≤◌, ◌⊎◌, ℕ, [], true, false, length, drop, set, slice_index, slice_index_or, List, IfOk, MatchOption};
+ghost use Rattle.std.specs.Prelude.{◌≡◌, ◌↔◌, ◌+◌, ◌-◌, ◌<◌, ◌≤◌, ◌⊎◌, ℕ, IsTrue, [], true, false, length, drop, set, slice_index, slice_index_or, List, IfOk, MatchOption};
 ghost use Rattle.packing_terms.specs.Packing.{PlainInstance, dims, box_count, side, container_side};
 ghost use Rattle.packing_terms.specs.Limits.{IsBoxCount};
 ghost use Rattle.packing_terms.specs.Runs.{most_weight};
@@ -91,13 +91,16 @@ fn list_of(direction: Direction, dim: u32) -> usize
     }
 }
 
-// Whether two rows of sides are equal.
+// Whether two rows of sides are equal. The four comparisons are joined without branches.
 #[inline]
 fn is_same_row(first: &[u32; 4], second: &[u32; 4]) -> bool
-    ensures { result ≡ true → (i : ℕ) → i < 4
-        → slice_index first.now i ≡ slice_index second.now i }
+    ensures { IsTrue result
+        ↔ ((i : ℕ) → i < 4 → slice_index first.now i ≡ slice_index second.now i) }
 {
-    first[0] == second[0] && first[1] == second[1] && first[2] == second[2] && first[3] == second[3]
+    (first[0] == second[0])
+        & (first[1] == second[1])
+        & (first[2] == second[2])
+        & (first[3] == second[3])
 }
 
 impl ChainWeights {
@@ -182,6 +185,8 @@ impl ChainWeights {
         ensures held { IsSameHistory self.old self.new }
         ensures room { length self.new.log + more ≤ 4096 }
         ensures kept { length self.old.log + more ≤ 4096 → self.new ≡ self.old }
+        ensures emptied { 4096 < length self.old.log + more
+            → self.new ≡ record self.old { log = []; ends = [] } }
     {
         if self.log.len() + more > MAX_RAISES {
             self.forget();
