@@ -13,7 +13,7 @@ use Rattle.packing_terms.specs.Rank.{ranked}
 use Rattle.tree_terms.specs.Trees.{SearchTree, Verdict, Yes, No, Decided, Past, outcome, under_budget, count_of}
 use Rattle.tree_terms.specs.OuterTrees.{set_verdict, with_answer, bin_child, bin_node}
 use Rattle.tree_terms.specs.Paths.{max_budget, Leaf, Splits, node_view}
-use Rattle.tree_terms.proofs.Told.{told_past}
+use Rattle.tree_terms.proofs.UnderBudget.{over_budget}
 use Rattle.set_search.proofs.Reaching.{next_box}
 use Rattle.set_search.proofs.Verdicts.{finished}
 use Rattle.bin_search.specs.Nodes.{AreInBins}
@@ -81,7 +81,7 @@ module _ (t : PlainBinTree) (limits : IsInternalInstance t.instance) (placed : �
   step_past cap l =
       let k = child_counts t.instance t.scales t.bins (drop (placed + 1) (ranked t.instance))
       (with_answer bins b (grown bins (box_at t.instance placed) b)) (answers_of t.instance t.scales bins) b set in
-      sym (told_past cap (outcome (child_tree t placed bins b)) (omega (arith, k, l)))
+      sym (over_budget cap (outcome (child_tree t placed bins b)) (omega (arith, k, l)))
 
   pub step_refuted : (cap : ℕ) (ts : List PlainToken) (cost own : ℕ) → set ≡ No ts cost → own ≡ 1 + cost → own ≤ cap
       → Decided (No (SetRefuted (Some (suc b)) ∷ ts) own) ≡ under_budget cap (outcome (child_tree t placed bins b))

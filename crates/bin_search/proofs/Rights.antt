@@ -13,12 +13,12 @@ use Rattle.tree_terms.specs.Trees.{SearchTree, node_at, PlainOutcome, Decided, P
 use Rattle.tree_terms.specs.Trees.{count_of, under_budget}
 use Rattle.tree_terms.specs.Search.{IsYesVerdict}
 use Rattle.tree_terms.specs.OuterSearch.{IsBinRight}
-use Rattle.tree_terms.specs.Paths.{bins_at, outcome_at, outcome_of}
+use Rattle.tree_terms.specs.Paths.{bins_at}
 use Rattle.tree_terms.proofs.OuterDecisions.{bin_tree_search, decides_bins}
 use Rattle.tree_terms.proofs.OuterOutcomes.{bins_right}
 use Rattle.tree_terms.proofs.PathNodes.{bin_search_at}
 use Rattle.tree_terms.proofs.OuterCounts.{bin_count}
-use Rattle.tree_terms.proofs.Told.{told_decided}
+use Rattle.tree_terms.proofs.UnderBudget.{within_budget}
 use Rattle.class_search.specs.Right.{IsYesOrNo}
 use Rattle.bin_search.specs.Trees.{PlainBinTree, shape}
 use Rattle.bin_search.specs.Rights.{IsRight, Decides}
@@ -74,16 +74,5 @@ module _ (t : PlainBinTree) (limits : IsInternalInstance t.instance) where
   told_at [] cap r f p l =
       let c = bin_count t.instance (internal_sides t.instance limits) (some_dimension t.instance limits)
       t.scales t.bins in
-      rw (f, told_decided cap (outcome (shape t)) (omega (arith, c, l))) tt
+      rw (f, within_budget cap (outcome (shape t)) (omega (arith, c, l))) tt
   told_at (k ∷ path) cap r f p l = absurd (cc (p))
-
-  -- the same, said of the outcome at the path
-  pub outcome_there : (path : List ℕ) (cap : ℕ) (r : PlainOutcome)
-      → IfSome (node_at (Some (shape t)) path) (λ x. r ≡ under_budget cap (outcome x))
-      → IfSome (outcome_at (shape t) path) (λ v. r ≡ under_budget cap v)
-  outcome_there path cap r h = go (node_at (Some (shape t)) path) h
-    where
-      go : (o : Option SearchTree) → IfSome o (λ x. r ≡ under_budget cap (outcome x))
-          → IfSome (outcome_of o) (λ v. r ≡ under_budget cap v)
-      go None f = f
-      go (Some node) f = f

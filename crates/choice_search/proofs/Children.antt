@@ -13,7 +13,7 @@ use Rattle.tree_terms.specs.Trees.{SearchTree, Refuted, Split, Verdict, Yes, No,
 use Rattle.tree_terms.specs.OuterTrees.{set_verdict, taken_child, choice_of, is_reached, is_short, choice_numbers}
 use Rattle.tree_terms.specs.OuterTrees.{choice_node}
 use Rattle.tree_terms.specs.Paths.{max_budget, Leaf, node_view}
-use Rattle.tree_terms.proofs.Told.{told_past}
+use Rattle.tree_terms.proofs.UnderBudget.{over_budget}
 use Rattle.tree_terms.proofs.Joins.{count_join_no}
 use Rattle.set_search.proofs.Verdicts.{finished}
 use Rattle.set_search.proofs.Reaching.{next_box}
@@ -87,7 +87,7 @@ module _ (t : PlainChoiceTree) (decided : ℕ) (taken : List ℕ) (a : IsAbove t
   first_past cap l =
       let k = inside_counts t.instance t.scales t.goal (box_at t.instance decided)
       (drop (decided + 1) (ranked t.instance)) taken set in
-      sym (told_past cap (outcome (child_tree t decided taken 0)) (omega (arith, k, l)))
+      sym (over_budget cap (outcome (child_tree t decided taken 0)) (omega (arith, k, l)))
 
   pub first_refuted : (cap : ℕ) (ts : List PlainToken) (cost own : ℕ) → set ≡ No ts cost → own ≡ 1 + cost → own ≤ cap
       → Decided (No (SetRefuted None ∷ ts) own) ≡ under_budget cap (outcome (child_tree t decided taken 0))

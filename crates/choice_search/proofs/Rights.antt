@@ -12,12 +12,12 @@ use Rattle.tree_terms.specs.Trees.{SearchTree, node_at, PlainOutcome, Decided, P
 use Rattle.tree_terms.specs.Trees.{count_of, under_budget}
 use Rattle.tree_terms.specs.Search.{IsYesVerdict}
 use Rattle.tree_terms.specs.OuterSearch.{IsChoiceRight}
-use Rattle.tree_terms.specs.Paths.{choice_at, outcome_at, outcome_of}
+use Rattle.tree_terms.specs.Paths.{choice_at}
 use Rattle.tree_terms.proofs.OuterDecisions.{choice_tree_search, decides_value}
 use Rattle.tree_terms.proofs.OuterOutcomes.{value_right}
 use Rattle.tree_terms.proofs.PathNodes.{choice_search_at}
 use Rattle.tree_terms.proofs.ChoiceCounts.{choice_count}
-use Rattle.tree_terms.proofs.Told.{told_decided}
+use Rattle.tree_terms.proofs.UnderBudget.{within_budget}
 use Rattle.class_search.specs.Right.{IsYesOrNo}
 use Rattle.choice_search.specs.Choices.{PlainChoiceTree, shape}
 use Rattle.choice_search.specs.Rights.{IsRight, Decides}
@@ -73,16 +73,5 @@ module _ (t : PlainChoiceTree) (limits : IsInternalInstance t.instance) where
   told_at [] cap r f p l =
       let c = choice_count t.instance (internal_sides t.instance limits) (some_dimension t.instance limits)
       t.scales t.goal in
-      rw (f, told_decided cap (outcome (shape t)) (omega (arith, c, l))) tt
+      rw (f, within_budget cap (outcome (shape t)) (omega (arith, c, l))) tt
   told_at (k ∷ path) cap r f p l = absurd (cc (p))
-
-  -- the same, said of the outcome at the path
-  pub outcome_there : (path : List ℕ) (cap : ℕ) (r : PlainOutcome)
-      → IfSome (node_at (Some (shape t)) path) (λ x. r ≡ under_budget cap (outcome x))
-      → IfSome (outcome_at (shape t) path) (λ v. r ≡ under_budget cap v)
-  outcome_there path cap r h = go (node_at (Some (shape t)) path) h
-    where
-      go : (o : Option SearchTree) → IfSome o (λ x. r ≡ under_budget cap (outcome x))
-          → IfSome (outcome_of o) (λ v. r ≡ under_budget cap v)
-      go None f = f
-      go (Some node) f = f

@@ -17,7 +17,7 @@ use Rattle.tree_terms.proofs.Decisions.{class_tree_search, class_tree_right, dec
 use Rattle.tree_terms.proofs.PathNodes.{search_at}
 use Rattle.tree_terms.proofs.Searches.{outcome_right}
 use Rattle.tree_terms.proofs.Counts.{class_count}
-use Rattle.tree_terms.proofs.Told.{told_decided}
+use Rattle.tree_terms.proofs.UnderBudget.{within_budget}
 use Rattle.class_search.specs.Tree.{PlainClassTree, shape}
 use Rattle.class_search.specs.Right.{IsRight, Decides, IsYesOrNo}
 
@@ -58,7 +58,7 @@ pub class_told : (instance : PlainInstance) → IsInternalInstance instance
     → 3 ^ (dims instance * box_count instance * (box_count instance - 1) / 2) ≤ budget + 1 → IsYesOrNo r
 class_told instance limits start scales budget r e l =
     let c = class_count instance (some_dimension instance limits) start scales in
-    rw (e, told_decided budget (outcome (class_tree instance start scales)) (omega (arith, c, l))) tt
+    rw (e, within_budget budget (outcome (class_tree instance start scales)) (omega (arith, c, l))) tt
 
 -- at a node
 pub right_at : (t : PlainClassTree) → IsInternalInstance t.instance → AreAtEdges t.instance t.start

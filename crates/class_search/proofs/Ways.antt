@@ -12,7 +12,7 @@ use Rattle.tree_terms.specs.Trees.{SearchTree, Verdict, Yes, No, no_tokens, join
 use Rattle.tree_terms.specs.InnerTree.{tree_below}
 use Rattle.tree_terms.proofs.Joins.{join_assoc, join_nothing, nothing_join, split_joins, count_join_no}
 use Rattle.tree_terms.proofs.NodeSteps.{set_tree}
-use Rattle.tree_terms.proofs.Told.{told_decided}
+use Rattle.tree_terms.proofs.UnderBudget.{within_budget}
 use Rattle.class_search.specs.declared.splits.Child.TheVariants.{First, Second}
 use Rattle.class_search.specs.declared.splits.Split.{Split}
 use Rattle.class_search.specs.declared.visit.NodeKind.{NodeKind}
@@ -306,7 +306,7 @@ module _ (instance : PlainInstance) where
       let e : outcome whole ≡ Yes numbers c =
       sym (ap outcome root) ∙ (j.1 ∙ (ap (λ v. join (No ts c) (join v j.0)) found
       ∙ ap (λ n. Yes numbers n) (add-zero c))) in
-      sym (ap (under_budget cap) e ∙ told_decided cap (Yes numbers c) within)
+      sym (ap (under_budget cap) e ∙ within_budget cap (Yes numbers c) within)
 
   pub refuted_told : (whole : SearchTree) (es : List Exclusion) (ts : List PlainToken) (c cap : ℕ) (size : Size)
       → IsAfterSubtree instance whole [] es ts c size → c ≤ cap
@@ -315,4 +315,4 @@ module _ (instance : PlainInstance) where
       let tokens : ts ≡ b.own = b.all_tokens ∙ ap (λ l. l ++ b.own) b.met.0 in
       let count : c ≡ size.count = (let n = b.all_count in let z = b.met.1 in omega (arith, n, z)) in
       let e : outcome whole ≡ No ts c = sym (ap outcome b.root) ∙ (b.gives ∙ sym (ap₂ No tokens count)) in
-      sym (ap (under_budget cap) e ∙ told_decided cap (No ts c) within)
+      sym (ap (under_budget cap) e ∙ within_budget cap (No ts c) within)

@@ -10,7 +10,7 @@ use Rattle.packing_terms.proofs.Refuted.{none_fits}
 use Rattle.packing_terms.proofs.Excess.{excess_law}
 use Rattle.tree_terms.specs.Trees.{PlainOutcome, Decided, Past, Verdict, Yes, No, outcome, count_of, under_budget}
 use Rattle.tree_terms.specs.ClassTree.{class_tree}
-use Rattle.tree_terms.proofs.Told.{told_decided}
+use Rattle.tree_terms.proofs.UnderBudget.{within_budget}
 use Rattle.verdict_terms.specs.declared.check_answers.PlaceVerdict.{PlaceVerdict}
 use Rattle.verdict_terms.specs.declared.check_answers.PlaceVerdict.TheVariants.{Good, Outside, Overlap}
 use Rattle.verdict_terms.specs.Placing.{place_verdict}
@@ -158,4 +158,4 @@ module _ (instance : PlainInstance) (limits : IsInternalInstance instance) (budg
 
   pub outcome_within : tree_count instance scales ≤ budget → IsYesOrNo r
   outcome_within l = rw (is) (behind_decided instance p (tree_outcome instance budget scales)
-      (subst IsYesOrNo (sym (told_decided budget (outcome (class_tree instance [] scales)) l)) tt))
+      (subst IsYesOrNo (sym (within_budget budget (outcome (class_tree instance [] scales)) l)) tt))

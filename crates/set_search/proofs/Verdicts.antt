@@ -4,7 +4,7 @@ use Rattle.std.proofs.Common.{if◌then◌else◌, List, [], ◌++◌, append-ni
 use Rattle.std.proofs.lemmas.Bool.{lt-ltb, true≢false, cases_lt}
 use Rattle.packing_terms.specs.Tokens.{PlainToken}
 use Rattle.tree_terms.specs.Trees.{Verdict, No, join, count_of, PlainOutcome, Decided, Past, under_budget}
-use Rattle.tree_terms.proofs.Told.{told_decided}
+use Rattle.tree_terms.proofs.UnderBudget.{within_budget}
 use Rattle.tree_terms.proofs.Joins.{join_assoc}
 
 -- tokens and counts move from the right to the left
@@ -48,4 +48,4 @@ told_same budget v w e = go (ltb budget (count_of v)) refl e
 
 -- the outcome in the end
 pub finished : (cap : ℕ) (v whole : Verdict) → v ≡ whole → count_of v ≤ cap → Decided v ≡ under_budget cap whole
-finished cap v whole e l = sym (told_decided cap v l) ∙ ap (under_budget cap) e
+finished cap v whole e l = sym (within_budget cap v l) ∙ ap (under_budget cap) e

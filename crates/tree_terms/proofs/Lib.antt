@@ -6,7 +6,7 @@ pub mod Searches
 pub mod ClassSearch
 pub mod Closed
 pub mod ClosedPlaces
-pub mod Told
+pub mod UnderBudget
 pub mod Decisions
 pub mod Counts
 pub mod OuterOutcomes

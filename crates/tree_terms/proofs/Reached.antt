@@ -7,7 +7,7 @@ use Rattle.tree_terms.specs.Trees.{SearchTree, Settled, Refuted, Split, join_fro
 use Rattle.tree_terms.specs.Trees.{child_at, node_at}
 use Rattle.tree_terms.specs.Paths.{max_budget, own_of, PlainNode, Leaf, Splits, node_view, IsReachable, LeadsTo}
 use Rattle.tree_terms.proofs.Joins.{count_join_no}
-use Rattle.tree_terms.proofs.Told.{told_past}
+use Rattle.tree_terms.proofs.UnderBudget.{over_budget}
 use Rattle.tree_terms.proofs.PathNodes.{none_there, some_node}
 
 -- a path in two parts
@@ -28,7 +28,7 @@ own_least (Split token own n child) = let e = count_join_no (token ∷ []) own (
 -- a node whose own count is past every budget is past under each
 pub past_own : (tree : SearchTree) (budget : ℕ) → budget ≤ max_budget → max_budget < own_of tree
     → under_budget budget (outcome tree) ≡ Past
-past_own tree budget l m = let h = own_least tree in told_past budget (outcome tree) (omega (arith, l, m, h))
+past_own tree budget l m = let h = own_least tree in over_budget budget (outcome tree) (omega (arith, l, m, h))
 
 -- what is reported of a split
 abbrev own_told : PlainNode → ℕ

@@ -20,7 +20,7 @@ use Rattle.tree_terms.specs.Levels.{PlainLevel, SpentAt, PlainReached, bisect_le
 use Rattle.tree_terms.specs.Levels.{height_run, first_bins, bin_run, first_values, value_run, IsLevelBetween}
 use Rattle.tree_terms.specs.RunEnds.{HasSpentDecision, IsRisingEnd, IsFallingEnd, height_answer, bin_answer}
 use Rattle.tree_terms.specs.RunEnds.{value_answer, HasLevelPastBudget}
-use Rattle.tree_terms.proofs.Told.{told_past, told_decided}
+use Rattle.tree_terms.proofs.UnderBudget.{over_budget, within_budget}
 use Rattle.tree_terms.proofs.Counts.{class_count, times_le}
 use Rattle.tree_terms.proofs.OuterCounts.{bin_count}
 use Rattle.tree_terms.proofs.ChoiceCounts.{choice_count}
@@ -34,14 +34,14 @@ never_spent (Yes ns c) k = cc
 never_spent (No ts c) k = cc
 
 pub spent_level : (budget : ℕ) (v : Verdict) → level_by (under_budget budget v) ≡ SpentAt ↔ (budget < count_of v)
-spent_level budget v = (there, λ l. ap level_by (told_past budget v l))
+spent_level budget v = (there, λ l. ap level_by (over_budget budget v l))
   where
     there : level_by (under_budget budget v) ≡ SpentAt → budget < count_of v
     there e = go (cases_lt budget (count_of v))
       where
         go : (budget < count_of v) ⊎ (count_of v ≤ budget) → budget < count_of v
         go (inl l) = l
-        go (inr l) = absurd (never_spent v (sym (ap level_by (told_decided budget v l)) ∙ e))
+        go (inr l) = absurd (never_spent v (sym (ap level_by (within_budget budget v l)) ∙ e))
 
 module _ (tree : ℕ → Verdict) (budget : ℕ) (first : PlainReached) (fresh : first.spent ≡ false) where
   abbrev answers : ℕ → PlainLevel

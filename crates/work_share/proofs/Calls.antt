@@ -5,7 +5,7 @@ use Rattle.std.proofs.lemmas.List.Sums.{fold-append}
 use Rattle.packing_terms.specs.Tokens.{PlainToken}
 use Rattle.tree_terms.specs.Trees.{SearchTree, Verdict, under_budget, count_of, node_at}
 use Rattle.tree_terms.specs.Paths.{Splits, node_view, outcome_at}
-use Rattle.tree_terms.proofs.Told.{told_past}
+use Rattle.tree_terms.proofs.UnderBudget.{over_budget}
 use Rattle.work_share.specs.Board.{BoardState, PlainEntry, TaskEntry, Out, Done, is_out, entry_path, out_path}
 use Rattle.work_share.specs.Board.{at_first, with_state, split_into}
 use Rattle.work_share.specs.Steps.{Request, AskTask, AskSplit, AskFinish, NoteShort, Reply, Job, NoneWaits, IsOver}
@@ -45,7 +45,7 @@ divided_is tree n path node token own children es handed there told =
 
 pub read_given : (budget : ℕ) (past : Bool) (verdict : Verdict) → (past ≡ true → budget < count_of verdict)
     → outcome_read budget past verdict ≡ outcome_given past verdict
-read_given budget true verdict above = told_past budget verdict (above refl)
+read_given budget true verdict above = over_budget budget verdict (above refl)
 read_given budget false verdict above = refl
 
 pub finished_is : (tree : SearchTree) (budget n : ℕ) (past : Bool) (path : List ℕ) (verdict : Verdict)

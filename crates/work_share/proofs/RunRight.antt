@@ -5,7 +5,7 @@ use Rattle.std.proofs.lemmas.Bool.{true≢false, ltb-true, cases_lt}
 use Rattle.tree_terms.specs.Trees.{SearchTree, Verdict, Yes, No, no_tokens, join, count_of, PlainOutcome, under_budget, outcome}
 use Rattle.tree_terms.specs.Paths.{outcome_at}
 use Rattle.tree_terms.proofs.Joins.{count_join_no, count_left}
-use Rattle.tree_terms.proofs.Told.{told_past}
+use Rattle.tree_terms.proofs.UnderBudget.{over_budget}
 use Rattle.work_share.specs.Board.{BoardState, PlainEntry, SplitEntry, TaskEntry, Waits, Out, Done}
 use Rattle.work_share.specs.Runs.{Run, with_piece, piece_of, run_of, is_board_over, board_joined}
 use Rattle.work_share.specs.Kept.{IsOutcomeOf, AreTasksRight}
@@ -89,7 +89,7 @@ joins_run : (budget : ℕ) (run : Run) (value : Verdict) → IsRunOf budget run 
 joins_run budget run value r over = go (cases_lt budget (count_of run.verdict))
   where
     go : (budget < count_of run.verdict) ⊎ (count_of run.verdict ≤ budget) → under_budget budget run.verdict ≡ under_budget budget value
-    go (inl l) = told_past budget run.verdict l ∙ sym (told_past budget value (let a = r.least in omega (arith, a, l)))
+    go (inl l) = over_budget budget run.verdict l ∙ sym (over_budget budget value (let a = r.least in omega (arith, a, l)))
     go (inr l) = ap (under_budget budget) (r.same (whole over) l)
       where
         whole : (run.is_whole ≡ true) ⊎ (ltb budget (count_of run.verdict) ≡ true) → run.is_whole ≡ true

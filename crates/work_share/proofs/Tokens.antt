@@ -8,7 +8,7 @@ use Rattle.std.proofs.lemmas.List.{drop_more, drop_all, take-append-drop}
 use Rattle.std.proofs.lemmas.Option.{slice_get_read}
 use Rattle.packing_terms.specs.Tokens.{PlainToken}
 use Rattle.tree_terms.specs.Trees.{No, join, Decided, under_budget}
-use Rattle.tree_terms.proofs.Told.{told_decided}
+use Rattle.tree_terms.proofs.UnderBudget.{within_budget}
 use Rattle.tree_terms.proofs.Joins.{join_nothing}
 use Rattle.work_share.specs.Board.{PlainEntry}
 use Rattle.work_share.specs.Runs.{Run, with_entry, run_of}
@@ -80,7 +80,7 @@ joined_all budget len count es f l =
     ∙ (ap (λ xs. join (No (entry_tokens (take len es)) (counted (take len es))) (run_of budget xs).verdict) rest
     ∙ (join_nothing (No (entry_tokens (take len es)) (counted (take len es)))
     ∙ ap₂ (λ xs n. No (entry_tokens xs) n) front f.known.sum)) in
-    sym (ap (under_budget budget) verdict ∙ told_decided budget (No (entry_tokens es) count) f.known.within)
+    sym (ap (under_budget budget) verdict ∙ within_budget budget (No (entry_tokens es) count) f.known.within)
 
 -- a run that ends with the entry behind its front
 pub joined_end : (budget len count : ℕ) (es : List PlainEntry) (d : PlainEntry) → IsFront budget es len count true

@@ -9,7 +9,7 @@ use Rattle.packing_terms.proofs.RankLemmas.{ranked_are_boxes}
 use Rattle.packing_terms.proofs.Boxes.{boxes_few}
 use Rattle.tree_terms.specs.Trees.{Verdict, Yes, Decided, outcome}
 use Rattle.tree_terms.specs.OuterTrees.{bin_node}
-use Rattle.tree_terms.proofs.Told.{told_past}
+use Rattle.tree_terms.proofs.UnderBudget.{over_budget}
 use Rattle.proof_tree.specs.Plain.{plain_token}
 use Rattle.class_search.proofs.Lists.{reverse_last, reverse_none}
 use Rattle.set_search.proofs.Verdicts.{finished}
@@ -170,7 +170,7 @@ returns-in-Past-clause-outcome c =
     let h = past.0 in
     let p = child_past t whole c.loop-node.tokens c.loop-node.count held (nodes_above held hs)
     left more in
-    sym (told_past c.args.cap whole (omega (arith, p, h, c.loop-node.invariant.within)))
+    sym (over_budget c.args.cap whole (omega (arith, p, h, c.loop-node.invariant.within)))
 
 pub loop-node-preserved-in-Refuted : goal.loop-node-preserved-in-Refuted
 loop-node-preserved-in-Refuted c =

@@ -1,6 +1,6 @@
 use Rattle.std.proofs.Common.{◌+◌, ℕ, List, sym, subst, arith}
 use Rattle.tree_terms.specs.Trees.{outcome}
-use Rattle.tree_terms.proofs.Told.{told_past}
+use Rattle.tree_terms.proofs.UnderBudget.{over_budget}
 use Rattle.set_search.proofs.Sets.{box_set}
 use Rattle.choice_search.specs.Choices.{PlainChoiceTree, IsChosen}
 use Rattle.choice_search.specs.Paths.{child_tree}
@@ -15,7 +15,7 @@ returns-then-cap-eq0 c =
       scales = c.args.search.now.scales;
     } in
     let p = second_past t c.args.above.decided c.args.above.taken.items c.requires.above in
-    sym (told_past c.args.cap (outcome (child_tree t c.args.above.decided c.args.above.taken.items 1))
+    sym (over_budget c.args.cap (outcome (child_tree t c.args.above.decided c.args.above.taken.items 1))
     (omega (arith, p, c.if-cap-eq0.true)))
 
 pub class_answer-requires-clause-set : goal.class_answer-requires-clause-set

@@ -4,7 +4,7 @@ use Rattle.packing_terms.specs.Tokens.{PlainToken}
 use Rattle.packing_terms.specs.Tokens.PlainToken.{Choose, SetRefuted}
 use Rattle.tree_terms.specs.Trees.{Verdict, Yes, No, Decided}
 use Rattle.tree_terms.specs.OuterTrees.{choice_numbers}
-use Rattle.tree_terms.proofs.Told.{told_past}
+use Rattle.tree_terms.proofs.UnderBudget.{over_budget}
 use Rattle.class_search.proofs.Lists.{reverse_last, reverse_none}
 use Rattle.set_search.proofs.Verdicts.{finished}
 use Rattle.set_search.proofs.Sets.{places_count}
@@ -76,7 +76,7 @@ returns-then-count-cap-clause-outcome c =
     let e = ap reverse c.in-Some.ensures.items ∙ reverse_last c.pop.new.self.items c.in-Some.waiting in
     let p = short_past t whole c.loop-node.tokens c.loop-node.count c.loop-node.node met.0 met.1
     c.in-Some.waiting (reverse c.pop.new.self.items) (rw e at c.loop-node.invariant.left) in
-    sym (told_past c.args.cap whole (omega (arith, p, c.if-count-cap.true)))
+    sym (over_budget c.args.cap whole (omega (arith, p, c.if-count-cap.true)))
 
 pub loop-node-preserved-in-Short : goal.loop-node-preserved-in-Short
 loop-node-preserved-in-Short c =
@@ -123,7 +123,7 @@ returns-in-Past-clause-outcome c =
     at c.in_ok-open_first-in-Divided.ensures.opened in
     let p = opened_past t whole c.loop-node.tokens c.loop-node.count c.loop-node.node
     (reverse c.loop-node.stack.items) c.loop-node.invariant.left c.in-Divided.v met.0 met.1 met.2 in
-    sym (told_past c.args.cap whole (omega (arith, p, h, c.loop-node.invariant.within)))
+    sym (over_budget c.args.cap whole (omega (arith, p, h, c.loop-node.invariant.within)))
 
 pub loop-node-preserved-in-Refuted : goal.loop-node-preserved-in-Refuted
 loop-node-preserved-in-Refuted c =

@@ -1,8 +1,8 @@
 use Rattle.tree_terms.proofs.laws.outcomes_under_a_budget.Goals as goal
-use Rattle.tree_terms.proofs.Told.{told_past, told_decided}
+use Rattle.tree_terms.proofs.UnderBudget.{over_budget, within_budget}
 
 pub returns-clause-past : goal.returns-clause-past
-returns-clause-past c = told_past
+returns-clause-past c = over_budget
 
 pub returns-clause-decided : goal.returns-clause-decided
-returns-clause-decided c = told_decided
+returns-clause-decided c = within_budget

@@ -1,7 +1,8 @@
 use Rattle.std.proofs.lemmas.Result.{IfOk-weaker}
+use Rattle.tree_terms.proofs.UnderBudget.{outcome_there}
 use Rattle.work_share.specs.Outcomes.{plain_outcome}
-use Rattle.choice_search.specs.Choices.{PlainChoiceTree}
-use Rattle.choice_search.proofs.Rights.{right_at, decides_at, outcome_there, told_at}
+use Rattle.choice_search.specs.Choices.{PlainChoiceTree, shape}
+use Rattle.choice_search.proofs.Rights.{right_at, decides_at, told_at}
 use Rattle.choice_search.proofs.tree.ChoiceTreeTree.explore.Goals as goal
 
 pub returns-clause-outcome : goal.returns-clause-outcome
@@ -13,7 +14,7 @@ returns-clause-outcome c =
       scales = c.self.inside.scales;
     } in
     rw (← e) (IfOk-weaker c.explore_node.result _ _
-    (λ r h. outcome_there t c.len-limits.ensures.limits c.args.path.now c.args.cap (plain_outcome r) h)
+    (λ r h. outcome_there (shape t) c.args.path.now c.args.cap (plain_outcome r) h)
     (rw (← e) at c.explore_node.ensures))
 
 pub returns-clause-right : goal.returns-clause-right

@@ -1,6 +1,6 @@
 use Rattle.std.proofs.Common.{reverse, sym, arith}
 use Rattle.tree_terms.specs.Trees.{outcome}
-use Rattle.tree_terms.proofs.Told.{told_past}
+use Rattle.tree_terms.proofs.UnderBudget.{over_budget}
 use Rattle.class_search.specs.Visits.{kind_tree}
 use Rattle.class_search.specs.Kept.{standing_tree}
 use Rattle.class_search.proofs.Ways.{met_count}
@@ -13,7 +13,7 @@ returns-then-walk-cap c =
     (kind_tree s.instance.now s.state.trail s.walk.node) s.walk.tokens s.walk.count
     c.requires.known.walks.met in
     record {
-      told_so = sym (told_past c.args.cap (outcome (standing_tree s))
+      told_so = sym (over_budget c.args.cap (outcome (standing_tree s))
           (omega (arith, m, c.if-walk-cap.true)));
       left = tt;
     }
