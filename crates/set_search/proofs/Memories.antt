@@ -16,9 +16,9 @@ use Rattle.tree_terms.specs.OuterTrees.{set_verdict}
 use Rattle.tree_terms.proofs.Decisions.{class_tree_right}
 use Rattle.box_instances.proofs.Subsets.{subset_within}
 use Rattle.class_search.specs.Right.{IsRight}
-use Rattle.set_search.proofs.Verdicts.{told_same}
-use Rattle.set_search.specs.Memories.{has_box, HasBoxes, PlainEntry, plain_count, retold, Serves, IsRecalled, IsPut, IsCopied, IsVerdict}
-use Rattle.set_search.specs.Memories.{AreVerdicts, IsRecalledNo, IsToldNo}
+use Rattle.set_search.proofs.Verdicts.{decided_within}
+use Rattle.set_search.specs.Memories.{has_box, HasBoxes, PlainEntry, plain_count, capped_under, Serves, IsRecalled, IsPut, IsCopied, IsVerdict}
+use Rattle.set_search.specs.Memories.{AreVerdicts, IsRecalledNo, IsAppendedNo}
 
 -- one box more
 pub has_push : (vs : List ℕ) (v x : ℕ) → has_box (vs ++ v ∷ []) x ≡ has_box vs x || eqb x v
@@ -117,7 +117,7 @@ verdicts_copied instance scales other old new given right all k d l = go (get_or
     go e (inl there) = All-contains (IsVerdict instance scales) other e given there
     go e (inr there) = All-contains (IsVerdict instance scales) old e right there
 
-none_past : (budget : ℕ) → retold budget Past ≡ Past
+none_past : (budget : ℕ) → capped_under budget Past ≡ Past
 none_past budget = go (ltb budget 0)
   where
     go : (b : Bool) → cond b Past Past ≡ Past
@@ -125,27 +125,27 @@ none_past budget = go (ltb budget 0)
     go false = refl
 
 -- an outcome that was found under one budget gives the outcome under another one that it serves
-pub retold_told : (found budget : ℕ) (v : Verdict) (r : PlainOutcome)
+pub capped_under_budget : (found budget : ℕ) (v : Verdict) (r : PlainOutcome)
     → r ≡ under_budget found v → Serves r found budget
-    → retold budget r ≡ under_budget budget v
-retold_told found budget v (Decided w) e serves =
-    let t = told_same found v w e in ap (under_budget budget) (sym t.same)
-retold_told found budget v Past e serves = go (ltb found (count_of v)) refl e
+    → capped_under budget r ≡ under_budget budget v
+capped_under_budget found budget v (Decided w) e serves =
+    let t = decided_within found v w e in ap (under_budget budget) (sym t.same)
+capped_under_budget found budget v Past e serves = go (ltb found (count_of v)) refl e
   where
     is_past : PlainOutcome → Type 0
     is_past (Decided x) = ⊥
     is_past Past = Past ≡ Past
 
-    go : (b : Bool) → ltb found (count_of v) ≡ b → Past ≡ cond b Past (Decided v) → retold budget Past ≡ under_budget budget v
+    go : (b : Bool) → ltb found (count_of v) ≡ b → Past ≡ cond b Past (Decided v) → capped_under budget Past ≡ under_budget budget v
     go true f h =
         let l = ltb-true found (count_of v) f in
         none_past budget ∙ sym (ap (λ b. cond b Past (Decided v)) (lt-ltb budget (count_of v) (omega (arith, l, serves))))
     go false f h = absurd (subst is_past h refl)
 
 -- the outcome under this budget, from one that was found under a greater budget or the same
-pub told_within : (found budget : ℕ) (v : Verdict) (r s : PlainOutcome)
-    → budget ≤ found → r ≡ under_budget found v → s ≡ retold budget r → s ≡ under_budget budget v
-told_within found budget v r s l e h = h ∙ retold_told found budget v r e (go r)
+pub recalled_within : (found budget : ℕ) (v : Verdict) (r s : PlainOutcome)
+    → budget ≤ found → r ≡ under_budget found v → s ≡ capped_under budget r → s ≡ under_budget budget v
+recalled_within found budget v r s l e h = h ∙ capped_under_budget found budget v r e (go r)
   where
     go : (x : PlainOutcome) → Serves x found budget
     go (Decided w) = tt
@@ -160,22 +160,22 @@ pub recalled : (instance : PlainInstance) (scales : Bool) (entries : List PlainE
 recalled instance scales entries boxes keep budget r right has set found =
     let v = All-contains (IsVerdict instance scales) entries found.entry right found.kept.there in
     let own = v.is keep set (subst (λ (b : List ℕ). HasBoxes b keep) (sym found.kept.same) has) in
-    found.told
-    ∙ retold_told found.entry.budget budget (set_verdict instance scales keep) found.entry.outcome own found.serves
+    found.capped
+    ∙ capped_under_budget found.entry.budget budget (set_verdict instance scales keep) found.entry.outcome own found.serves
 
 -- what is recalled of a set that is kept as refuted is its verdict
 pub recalled_no : (instance : PlainInstance) (scales : Bool) (entries : List PlainEntry) (boxes keep : List ℕ)
     (budget : ℕ) (bin : Option ℕ) (old new : List PlainToken) (found : Option ℕ)
     → AreVerdicts instance scales entries → HasBoxes boxes keep → IsBoxSet instance keep
     → IsRecalledNo entries boxes budget bin old new found
-    → IsToldNo (set_verdict instance scales keep) budget bin old new found
+    → IsAppendedNo (set_verdict instance scales keep) budget bin old new found
 recalled_no instance scales entries boxes keep budget bin old new None right has set e = e
 recalled_no instance scales entries boxes keep budget bin old new (Some cost) right has set e =
     let v = All-contains (IsVerdict instance scales) entries e.entry right e.kept.there in
     let own = v.is keep set (subst (λ (b : List ℕ). HasBoxes b keep) (sym e.kept.same) has) in
     record {
       tokens = e.refuted.tokens;
-      is = (let t = told_same e.entry.budget (set_verdict instance scales keep) (No e.refuted.tokens cost)
+      is = (let t = decided_within e.entry.budget (set_verdict instance scales keep) (No e.refuted.tokens cost)
           (sym e.refuted.is ∙ own) in
           t.same);
       within = e.refuted.within;
@@ -183,10 +183,10 @@ recalled_no instance scales entries boxes keep budget bin old new (Some cost) ri
     }
 
 -- the outcome of a set under a budget is right
-pub told_right : (instance : PlainInstance) (scales : Bool) (keep : List ℕ) (budget : ℕ) (r : PlainOutcome)
+pub recalled_right : (instance : PlainInstance) (scales : Bool) (keep : List ℕ) (budget : ℕ) (r : PlainOutcome)
     → IsInternalInstance instance → IsBoxSet instance keep
     → 1 ≤ length keep → r ≡ under_budget budget (set_verdict instance scales keep) → IsRight (subset instance keep) [] r
-told_right instance scales keep budget r limits set some e =
+recalled_right instance scales keep budget r limits set some e =
     subst (λ (x : PlainOutcome). IsRight (subset instance keep) [] x) (sym e)
     (go (ltb budget (count_of (set_verdict instance scales keep))))
   where
@@ -195,11 +195,11 @@ told_right instance scales keep budget r limits set some e =
     go false = class_tree_right (subset instance keep) (subset_within instance keep set some limits) [] tt scales
 
 -- an outcome under a budget: past where its count is greater, and else the same
-pub retold_past : (budget : ℕ) (r : PlainOutcome) → budget < plain_count r → Past ≡ retold budget r
-retold_past budget r l = sym (ap (λ b. cond b Past r) (lt-ltb budget (plain_count r) l))
+pub capped_past : (budget : ℕ) (r : PlainOutcome) → budget < plain_count r → Past ≡ capped_under budget r
+capped_past budget r l = sym (ap (λ b. cond b Past r) (lt-ltb budget (plain_count r) l))
 
-pub retold_same : (budget : ℕ) (r : PlainOutcome) → plain_count r ≤ budget → r ≡ retold budget r
-retold_same budget r l = sym (ap (λ b. cond b Past r) (le-ltb budget (plain_count r) l))
+pub capped_same : (budget : ℕ) (r : PlainOutcome) → plain_count r ≤ budget → r ≡ capped_under budget r
+capped_same budget r l = sym (ap (λ b. cond b Past r) (le-ltb budget (plain_count r) l))
 
 -- one entry more, or one in the place of another
 pub kept_all : (es : List PlainEntry) (put : PlainEntry) → All (IsPut es put) es

@@ -22,18 +22,18 @@ pub advance_leaf : (ts us : List PlainToken) (c d : ℕ) (w : Verdict)
 advance_leaf ts us c d w = sym (join_assoc (No ts c) (No us d) w)
 
 -- an outcome that is decided has the verdict itself, within the budget; where it is past, the count is greater
-pub record IsTold (budget : ℕ) (v w : Verdict) : Type 0 where
+pub record IsDecidedWithin (budget : ℕ) (v w : Verdict) : Type 0 where
   pub same : v ≡ w
   pub within : count_of w ≤ budget
 
-pub told_same : (budget : ℕ) (v w : Verdict) → Decided w ≡ under_budget budget v → IsTold budget v w
-told_same budget v w e = go (ltb budget (count_of v)) refl e
+pub decided_within : (budget : ℕ) (v w : Verdict) → Decided w ≡ under_budget budget v → IsDecidedWithin budget v w
+decided_within budget v w e = go (ltb budget (count_of v)) refl e
   where
     is_decided : PlainOutcome → Type 0
     is_decided (Decided x) = x ≡ w
     is_decided Past = ⊥
 
-    go : (b : Bool) → ltb budget (count_of v) ≡ b → Decided w ≡ (if b then Past else Decided v) → IsTold budget v w
+    go : (b : Bool) → ltb budget (count_of v) ≡ b → Decided w ≡ (if b then Past else Decided v) → IsDecidedWithin budget v w
     go true f h = absurd (subst is_decided h refl)
     go false f h =
         let same : v ≡ w = subst is_decided h refl in

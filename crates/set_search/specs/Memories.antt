@@ -41,8 +41,8 @@ plain_size (Decided (No tokens count)) = length tokens
 plain_size Past = 0
 
 -- the outcome under a budget, from one that was found under a greater one
-abbrev pub retold : ℕ → PlainOutcome → PlainOutcome
-retold budget r = if nat_lt budget (plain_count r) then Past else r
+abbrev pub capped_under : ℕ → PlainOutcome → PlainOutcome
+capped_under budget r = if nat_lt budget (plain_count r) then Past else r
 
 -- an outcome that was found under a budget gives the outcome under another one: it is a verdict, or
 -- the other budget isn't greater
@@ -55,7 +55,7 @@ pub record IsRecalled (entries : List PlainEntry) (boxes : List ℕ) (budget : �
   pub entry : PlainEntry
   pub kept : IsEntryOf entries boxes entry
   pub serves : Serves entry.outcome entry.budget budget
-  pub told : r ≡ retold budget entry.outcome
+  pub capped : r ≡ capped_under budget entry.outcome
 
 -- the outcome is no with this count, which is within the budget, and that is appended to the tokens,
 -- with what refutes it
@@ -67,10 +67,10 @@ pub record IsRefutedOutcome (outcome : PlainOutcome) (budget : ℕ) (bin : Optio
   pub appended : new ≡ old ++ SetRefuted bin ∷ tokens
 
 -- the same where a count is given, and else the tokens are as before
-abbrev pub IsToldOutcome :
+abbrev pub IsAppendedOutcome :
     PlainOutcome → ℕ → Option ℕ → List PlainToken → List PlainToken → Option ℕ → Type 0
-IsToldOutcome outcome budget bin old new None = new ≡ old
-IsToldOutcome outcome budget bin old new (Some cost) = IsRefutedOutcome outcome budget bin old new cost
+IsAppendedOutcome outcome budget bin old new None = new ≡ old
+IsAppendedOutcome outcome budget bin old new (Some cost) = IsRefutedOutcome outcome budget bin old new cost
 
 -- an entry that has these boxes is refuted so
 pub record IsRefutedEntry (entries : List PlainEntry) (boxes : List ℕ) (budget : ℕ) (bin : Option ℕ)
@@ -112,6 +112,6 @@ pub record IsNoVerdict (verdict : Verdict) (budget : ℕ) (bin : Option ℕ) (ol
   pub appended : new ≡ old ++ SetRefuted bin ∷ tokens
 
 -- the same where a count is given, and else the tokens are as before
-abbrev pub IsToldNo : Verdict → ℕ → Option ℕ → List PlainToken → List PlainToken → Option ℕ → Type 0
-IsToldNo verdict budget bin old new None = new ≡ old
-IsToldNo verdict budget bin old new (Some cost) = IsNoVerdict verdict budget bin old new cost
+abbrev pub IsAppendedNo : Verdict → ℕ → Option ℕ → List PlainToken → List PlainToken → Option ℕ → Type 0
+IsAppendedNo verdict budget bin old new None = new ≡ old
+IsAppendedNo verdict budget bin old new (Some cost) = IsNoVerdict verdict budget bin old new cost

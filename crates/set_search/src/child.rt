@@ -59,7 +59,7 @@ impl<'a> SetSearch<'a> {
         // Most sets come again and are refuted: those need no list of their boxes.
         let key = self.key_with(keep, v);
         let source = self.locate(alloc, &key);
-        if let Some(cost) = self.told_refuted(alloc, source, &key, left - 1, bin, tokens)? {
+        if let Some(cost) = self.recall_refuted(alloc, source, &key, left - 1, bin, tokens)? {
             return Ok(Child::Refuted { own: 1 + cost });
         }
         let mut set = self.take_spare(alloc);

@@ -2,7 +2,7 @@
 ghost use Rattle.std.specs.Prelude.{◌≡◌, true, IfOk, OnErr};
 ghost use Rattle.proof_tree.specs.Shorts.{AreLonger};
 ghost use Rattle.work_share.specs.Outcomes.{plain_outcome};
-ghost use Rattle.set_search.specs.Memories.{plain_count, plain_size, retold, Serves, IsToldOutcome};
+ghost use Rattle.set_search.specs.Memories.{plain_count, plain_size, capped_under, Serves, IsAppendedOutcome};
 
 use box_instances::NoMemory;
 use proof_tree::{CompactTokens, Outcome, Token};
@@ -52,8 +52,8 @@ pub(crate) fn serves(outcome: &Outcome, found_under: u64, budget: u64) -> bool
 }
 
 // The outcome under this budget, from one that was found under a greater budget or the same.
-pub(crate) fn told_under(outcome: Outcome, budget: u64) -> Outcome
-    ensures { plain_outcome result ≡ retold budget (plain_outcome outcome) }
+pub(crate) fn capped_outcome(outcome: Outcome, budget: u64) -> Outcome
+    ensures { plain_outcome result ≡ capped_under budget (plain_outcome outcome) }
 {
     if count_of(&outcome) > budget {
         return Outcome::Past;
@@ -96,7 +96,7 @@ pub(crate) fn push_refuted(
     bin: Option<u32>,
     tokens: &mut CompactTokens,
 ) -> Result<Option<u64>, NoMemory>
-    ensures told { IfOk result (λ found. IsToldOutcome (plain_outcome outcome.now) budget bin
+    ensures appended { IfOk result (λ found. IsAppendedOutcome (plain_outcome outcome.now) budget bin
         tokens.old tokens.new found) }
     ensures front { OnErr result (AreLonger tokens.old tokens.new) }
 {

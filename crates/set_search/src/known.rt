@@ -2,7 +2,7 @@
 ghost use Rattle.std.specs.Prelude.{◌≡◌, true, List, ℕ, IfOk, IfSome, OnErr};
 ghost use Rattle.packing_terms.specs.Goals.{IsBoxSet};
 ghost use Rattle.proof_tree.specs.Shorts.{AreLonger};
-ghost use Rattle.set_search.specs.Memories.{HasBoxes, IsToldNo};
+ghost use Rattle.set_search.specs.Memories.{HasBoxes, IsAppendedNo};
 ghost use Rattle.tree_terms.specs.Trees.{under_budget};
 ghost use Rattle.tree_terms.specs.OuterTrees.{set_verdict};
 ghost use Rattle.work_share.specs.Outcomes.{plain_outcome};
@@ -93,9 +93,9 @@ impl<'a> KnownSets<'a> {
         bin: Option<u32>,
         tokens: &mut CompactTokens,
     ) -> Result<Option<u64>, NoMemory>
-        ensures told { IfOk result (λ found. (keep : List ℕ) → HasBoxes key.now.boxes keep
+        ensures appended { IfOk result (λ found. (keep : List ℕ) → HasBoxes key.now.boxes keep
             → IsBoxSet self.now.instance keep
-            → IsToldNo (set_verdict self.now.instance self.now.scales keep) budget bin
+            → IsAppendedNo (set_verdict self.now.instance self.now.scales keep) budget bin
             tokens.old tokens.new found) }
         ensures front { OnErr result (AreLonger tokens.old tokens.new) }
     {

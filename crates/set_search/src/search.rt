@@ -4,14 +4,14 @@ ghost use Rattle.packing_terms.specs.Goals.{subset, IsBoxSet};
 ghost use Rattle.packing_terms.specs.Limits.{IsDimCount, max_boxes};
 ghost use Rattle.set_search.specs.Searches.{AreClosers};
 ghost use Rattle.proof_tree.specs.Shorts.{AreLonger};
-ghost use Rattle.set_search.specs.Memories.{HasBoxes, IsToldNo};
+ghost use Rattle.set_search.specs.Memories.{HasBoxes, IsAppendedNo};
 ghost use Rattle.packing_terms.specs.OuterRefutation.{insert_box};
 ghost use Rattle.tree_terms.specs.Trees.{under_budget};
 ghost use Rattle.tree_terms.specs.OuterTrees.{set_verdict};
 ghost use Rattle.work_share.specs.Outcomes.{plain_outcome};
 ghost use Rattle.class_search.specs.Right.{IsRight};
 
-use crate::kept::told_under;
+use crate::kept::capped_outcome;
 use crate::key::SetKey;
 use crate::known::KnownSets;
 use crate::pool::{IdleSearch, SearchPool};
@@ -308,7 +308,7 @@ impl<'a> SetSearch<'a> {
 
     // The count of a set of this key that is kept as refuted where it says, within the budget: that
     // is appended to the tokens, and what refutes it. Else the tokens are as before.
-    pub(crate) fn told_refuted(
+    pub(crate) fn recall_refuted(
         &self,
         alloc: Global,
         source: Source,
@@ -317,9 +317,9 @@ impl<'a> SetSearch<'a> {
         bin: Option<u32>,
         tokens: &mut CompactTokens,
     ) -> Result<Option<u64>, NoMemory>
-        ensures told { IfOk result (λ found. (keep : List ℕ) → HasBoxes key.now.boxes keep
+        ensures appended { IfOk result (λ found. (keep : List ℕ) → HasBoxes key.now.boxes keep
             → IsBoxSet self.now.instance keep
-            → IsToldNo (set_verdict self.now.instance self.now.scales keep) budget bin
+            → IsAppendedNo (set_verdict self.now.instance self.now.scales keep) budget bin
             tokens.old tokens.new found) }
         ensures front { OnErr result (AreLonger tokens.old tokens.new) }
     {
@@ -377,6 +377,6 @@ impl<'a> SetSearch<'a> {
         let reach = self.reach_of(budget);
         let outcome = self.decide_anew(alloc, keep, reach)?;
         self.keep_found(alloc, keep, key, reach, &outcome);
-        Ok(told_under(outcome, budget))
+        Ok(capped_outcome(outcome, budget))
     }
 }

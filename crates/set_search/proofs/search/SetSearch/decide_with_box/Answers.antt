@@ -11,16 +11,16 @@ grown-requires-clause-some c =
 
 pub returns-clause-child : goal.returns-clause-child
 returns-clause-child c =
-    let told = c.in_ok-cost.ensures.told (insert_box c.args.v c.args.keep.now) c.key_with-key.ensures
+    let appended = c.in_ok-cost.ensures.appended (insert_box c.args.v c.args.keep.now) c.key_with-key.ensures
     (rw c.locate-source.ensures c.requires) in
-    let same = rw c.in_default.is at told in
+    let same = rw c.in_default.is at appended in
     rw (c.take_spare-set.ensures, c.locate-source.ensures, c.in_ok-fill_with.ensures, same) at c.grown.ensures.child
 
 pub returns-in-Some-clause-child : goal.returns-in-Some-clause-child
 returns-in-Some-clause-child c =
-    let told = c.in_ok-cost.ensures.told (insert_box c.args.v c.args.keep.now) c.key_with-key.ensures
+    let appended = c.in_ok-cost.ensures.appended (insert_box c.args.v c.args.keep.now) c.key_with-key.ensures
     (rw c.locate-source.ensures c.requires) in
-    let found = rw (c.in-Some.is, c.locate-source.ensures) at told in
+    let found = rw (c.in-Some.is, c.locate-source.ensures) at appended in
     record {
       tokens = found.tokens;
       cost = c.in-Some.cost;
@@ -32,9 +32,9 @@ returns-in-Some-clause-child c =
 
 pub returns-in_err-fill_with-clause-front : goal.returns-in_err-fill_with-clause-front
 returns-in_err-fill_with-clause-front c =
-    let told = c.in_ok-cost.ensures.told (insert_box c.args.v c.args.keep.now) c.key_with-key.ensures
+    let appended = c.in_ok-cost.ensures.appended (insert_box c.args.v c.args.keep.now) c.key_with-key.ensures
     (rw c.locate-source.ensures c.requires) in
-    let same = rw c.in_default.is at told in
+    let same = rw c.in_default.is at appended in
     rw same
     (on_err (AreLonger c.args.tokens.now c.args.tokens.now) c.from_residual-in_err-fill_with.result
     ([], sym (append-nil c.args.tokens.now)))

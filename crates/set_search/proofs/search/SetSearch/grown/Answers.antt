@@ -7,13 +7,13 @@ use Rattle.tree_terms.specs.Trees.{Yes, No, under_budget}
 use Rattle.tree_terms.specs.OuterTrees.{set_verdict}
 use Rattle.work_share.specs.Outcomes.{plain_outcome}
 use Rattle.class_search.specs.Right.{IsRight}
-use Rattle.set_search.proofs.Verdicts.{told_same}
+use Rattle.set_search.proofs.Verdicts.{decided_within}
 use Rattle.set_search.proofs.search.SetSearch.grown.Goals as goal
 
 pub returns-in_ok-append-in-No-clause-child : goal.returns-in_ok-append-in-No-clause-child
 returns-in_ok-append-in-No-clause-child c =
     let e = c.as_slice.ensures.value in
-    let y = told_same (c.args.left - 1)
+    let y = decided_within (c.args.left - 1)
     (set_verdict c.args.self.now.instance c.args.self.now.scales c.args.set.items)
     (No c.in-No.inner c.in-No.count)
     (ap plain_outcome (sym c.in-No.is)
@@ -33,7 +33,7 @@ returns-in_ok-append-in-No-clause-child c =
 pub returns-in-Yes-clause-child : goal.returns-in-Yes-clause-child
 returns-in-Yes-clause-child c =
     let e = c.as_slice.ensures.value in
-    let y = told_same (c.args.left - 1)
+    let y = decided_within (c.args.left - 1)
     (set_verdict c.args.self.now.instance c.args.self.now.scales c.args.set.items)
     (Yes c.in-Yes.numbers.items c.in-Yes.count)
     (ap plain_outcome (sym c.in-Yes.is)
