@@ -141,8 +141,8 @@ fn exclude_left(
         if bits & relation != 0 {
             let from = state.premise_count();
             add_premises(state, edge, relation, cause)?;
-            let told = if flat { relation } else { turned(relation) };
-            state.add_entry(kept, told, from)?;
+            let stored = if flat { relation } else { turned(relation) };
+            state.add_entry(kept, stored, from)?;
         }
     }
     if flat {

@@ -36,7 +36,7 @@ pub(crate) fn from_text(number: u32) -> u32
 }
 
 // What a step came to.
-fn told(changed: bool) -> Option<AuditCode>
+fn code_unless(changed: bool) -> Option<AuditCode>
     ensures { result ≡ (if changed then None else Some StepCode) }
 {
     if changed { None } else { Some(AuditCode::Step) }
@@ -60,7 +60,7 @@ pub(crate) fn pair_line(
         return Some(AuditCode::Range);
     }
     let changed = take_pair(instance, state, from_text(dim), from_text(u), from_text(v));
-    told(changed)
+    code_unless(changed)
 }
 
 /// A step by APART: two distinct boxes.
@@ -81,7 +81,7 @@ pub(crate) fn apart_line(
         return Some(AuditCode::Range);
     }
     let changed = take_apart(instance, state, from_text(dim), from_text(u), from_text(v));
-    told(changed)
+    code_unless(changed)
 }
 
 /// A step by TRIPLE: three distinct boxes.
@@ -110,7 +110,7 @@ pub(crate) fn triple_line(
         from_text(v),
         from_text(x),
     );
-    told(changed)
+    code_unless(changed)
 }
 
 /// A step by COMPOSE: three distinct boxes.
@@ -138,7 +138,7 @@ pub(crate) fn compose_line(
         from_text(v),
         from_text(x),
     );
-    told(changed)
+    code_unless(changed)
 }
 
 /// A step by CYCLE: four distinct boxes.
@@ -168,7 +168,7 @@ pub(crate) fn cycle_line(
         from_text(c),
         from_text(d),
     );
-    told(changed)
+    code_unless(changed)
 }
 
 /// A step by ORDER: four distinct boxes.
@@ -198,7 +198,7 @@ pub(crate) fn order_line(
         from_text(c),
         from_text(d),
     );
-    told(changed)
+    code_unless(changed)
 }
 
 /// The exclusion at the numbers of a text.
