@@ -12,7 +12,7 @@ use Rattle.std.proofs.Math.Seq.{take-append_seam, take-length}
 use Rattle.std.specs.Io.KnownBytes.{append_known}
 use Rattle.pack_streams.specs.Moves.{Appended}
 use Rattle.pack_streams.specs.Writing.{CountsWriting, AppendedPrefix, Writes}
-use Rattle.answer_streams.specs.Fronts.{part_of, shown, IsToldFront}
+use Rattle.answer_streams.specs.Fronts.{part_of, shown, IsReportedFront}
 
 -- the part of a block is what is left of its front
 part_is : (block : List ℕ) (start end : ℕ) → start ≤ end → part_of block start end ≡ drop start (take end block)
@@ -74,7 +74,7 @@ is_told None = false
 is_told (Some xs) = true
 
 -- the sink behind took a part of the text, where what it took and what is held back is a part of the text
-pub part_behind : (w v : Option (List ℕ)) (held text : List ℕ) → IsToldFront w v
+pub part_behind : (w v : Option (List ℕ)) (held text : List ℕ) → IsReportedFront w v
     → AppendedPrefix w (append_known v held) text → AppendedPrefix w v text
 part_behind None None held text front part = (0, refl)
 part_behind None (Some ys) held text front part = absurd (true≢false (ap is_told part.1))
@@ -113,7 +113,7 @@ whole_part w v text gains = (length text, gains ∙ ap (append_known w) (sym (ta
 
 -- a failed text through a front is a failed text to the sink behind it
 pub behind_err : {E : Type 0} (w s v : Option (List ℕ)) (held : List ℕ) (f g h : FaultCount) (text : List ℕ) (e d : E)
-    → s ≡ w → g ≡ f → IsToldFront w v → Writes {E = E} s (append_known v held) g h text (Err e)
+    → s ≡ w → g ≡ f → IsReportedFront w v → Writes {E = E} s (append_known v held) g h text (Err e)
     → Writes {E = E} w v f h text (Err d)
 behind_err w s v held f g h text e d p q front t =
     record {
@@ -126,7 +126,7 @@ behind_err w s v held f g h text e d p q front t =
 pub behind_end : {E : Type 0} (w s u v : Option (List ℕ)) (block : List ℕ) (start end : ℕ) (f g h k : FaultCount)
     (text : List ℕ)
     (r : Result (Unit {0}) E)
-    → s ≡ w → g ≡ f → IsToldFront w v → Writes {E = E} s u g h text (Ok tt) → shown v block start end ≡ u
+    → s ≡ w → g ≡ f → IsReportedFront w v → Writes {E = E} s u g h text (Ok tt) → shown v block start end ≡ u
     → OnOk r (start ≡ end)
     → CountsWriting h k r → Writes {E = E} w v f k text r
 behind_end w s u v block start end f g h k text (Ok x) p q front t same none count =

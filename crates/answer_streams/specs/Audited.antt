@@ -108,9 +108,9 @@ abbrev pub front_audit_text : FrontAudited → List ℕ
 front_audit_text (VerifiedFront complete points) = number_line (verified_front complete) points
 front_audit_text (RefusedFront line reason) = verdict_line (Err (record { line = line; reason = reason }))
 
-abbrev pub front_told_status : FrontAudited → ℕ
-front_told_status (VerifiedFront complete points) = 0
-front_told_status (RefusedFront line reason) = 1
+abbrev pub front_reported_status : FrontAudited → ℕ
+front_reported_status (VerifiedFront complete points) = 0
+front_reported_status (RefusedFront line reason) = 1
 
 abbrev pub verdict_text : AuditedVerdict → List ℕ
 verdict_text (Reduced verdict) = reduced_verdict_line (plain_verdict verdict)
@@ -118,12 +118,12 @@ verdict_text (Bounded verdict) = bounded_verdict_line (plain_verdict verdict)
 verdict_text (Explained verdict) = explained_text verdict
 verdict_text (Front verdict) = front_audit_text verdict
 
-abbrev pub told_status : AuditedVerdict → ℕ
-told_status (Reduced verdict) = verdict_status (plain_verdict verdict)
-told_status (Bounded verdict) = verdict_status (plain_verdict verdict)
-told_status (Explained Verified) = 0
-told_status (Explained (Refused line reason)) = 1
-told_status (Front verdict) = front_told_status verdict
+abbrev pub reported_status : AuditedVerdict → ℕ
+reported_status (Reduced verdict) = verdict_status (plain_verdict verdict)
+reported_status (Bounded verdict) = verdict_status (plain_verdict verdict)
+reported_status (Explained Verified) = 0
+reported_status (Explained (Refused line reason)) = 1
+reported_status (Front verdict) = front_reported_status verdict
 
 -- the verdict on an explained document
 abbrev pub IsExplainedAs : Result PlainInstance ExplainedRefusal → ExplainedVerdict → Type 0
@@ -131,16 +131,16 @@ IsExplainedAs verdict Verified = (instance : PlainInstance) × (verdict ≡ Ok i
 IsExplainedAs verdict (Refused line reason) = verdict ≡ Err (record { line = line; reason = reason })
 
 -- the verdict on a document of a front
-abbrev pub IsFrontToldAs : Result FrontRead Refusal → FrontAudited → Type 0
-IsFrontToldAs verdict (VerifiedFront complete points) =
+abbrev pub IsFrontReportedAs : Result FrontRead Refusal → FrontAudited → Type 0
+IsFrontReportedAs verdict (VerifiedFront complete points) =
     (instance : PlainInstance) × (verdict
     ≡ Ok (record { instance = instance; claim = record { complete = complete; points = points } }))
-IsFrontToldAs verdict (RefusedFront line reason) = verdict ≡ Err (record { line = line; reason = reason })
+IsFrontReportedAs verdict (RefusedFront line reason) = verdict ≡ Err (record { line = line; reason = reason })
 
 -- the verdict is reported by its line and its status
-pub record IsToldAs (verdict : KindVerdict) (audited : AuditedVerdict) : Type 0 where
+pub record IsReportedAs (verdict : KindVerdict) (audited : AuditedVerdict) : Type 0 where
   pub line : verdict_text audited ≡ audit_line verdict
-  pub status : told_status audited ≡ audit_status verdict
+  pub status : reported_status audited ≡ audit_status verdict
 
 -- the parts of the line of a refusal
 abbrev pub audit_code_end : AuditCode → List ℕ

@@ -2,7 +2,7 @@
 ghost use Rattle.std.specs.Prelude.{◌≡◌};
 ghost use Rattle.pack_streams.specs.Writing.{Continues, Writes};
 ghost use Rattle.verdict_terms.specs.ExplainedDocuments.{explained_line};
-ghost use Rattle.answer_streams.specs.Audited.{explained_text, verdict_text, audit_code_end, explained_end, told_status};
+ghost use Rattle.answer_streams.specs.Audited.{explained_text, verdict_text, audit_code_end, explained_end, reported_status};
 
 use crate::audited_fronts::{FrontAudited, write_front_verdict};
 use crate::documents::Written;
@@ -32,7 +32,7 @@ pub enum AuditedVerdict {
 impl AuditedVerdict {
     /// The status that an audit ends with.
     pub fn status(self) -> u8
-        ensures { result ≡ told_status self }
+        ensures { result ≡ reported_status self }
     {
         match self {
             AuditedVerdict::Reduced(verdict) => verdict.status(),

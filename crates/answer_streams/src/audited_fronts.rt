@@ -1,7 +1,7 @@
 //! The verdict on a document of a front, and its one line.
 ghost use Rattle.std.specs.Prelude.{◌≡◌};
 ghost use Rattle.pack_streams.specs.Writing.{Writes};
-ghost use Rattle.answer_streams.specs.Audited.{front_audit_text, front_told_status, verified_front};
+ghost use Rattle.answer_streams.specs.Audited.{front_audit_text, front_reported_status, verified_front};
 
 use crate::documents::Written;
 use crate::verdict::{write_numbered, write_refusal};
@@ -20,7 +20,7 @@ pub enum FrontAudited {
 impl FrontAudited {
     /// The status that an audit ends with.
     pub fn status(self) -> u8
-        ensures { result ≡ front_told_status self }
+        ensures { result ≡ front_reported_status self }
     {
         match self {
             FrontAudited::Verified {

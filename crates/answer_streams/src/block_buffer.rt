@@ -3,7 +3,7 @@ ghost use Rattle.std.specs.Prelude.{◌≡◌, ◌<◌, ◌≤◌, ◌+◌, ◌-
 ghost use Rattle.pack_streams.specs.Faults.{FaultCount, Stays, FailedOnce};
 ghost use Rattle.pack_streams.specs.Moves.{Appended};
 ghost use Rattle.pack_streams.specs.Writing.{CountsWriting, Writes};
-ghost use Rattle.answer_streams.specs.Fronts.{IsToldFront, part_of, shown};
+ghost use Rattle.answer_streams.specs.Fronts.{IsReportedFront, part_of, shown};
 ghost use Rattle.std.proofs.Props.{props};
 
 use pack_streams::{Sink, WriteAnswer, WriteFault};
@@ -47,7 +47,7 @@ pub struct BlockBuffer<'a, K: Sink, B: SinkBrand> {
     pub end: usize,
     pub behind: PhantomData<B>,
     ghost same: { out.ghost_name ≡ B.name },
-    ghost since: { IsToldFront B.begun (K.written out.now) } by { Prim.hlevel props },
+    ghost since: { IsReportedFront B.begun (K.written out.now) } by { Prim.hlevel props },
     ghost ordered: { start ≤ end },
     ghost within: { end ≤ 4096 },
 }

@@ -38,7 +38,7 @@ use Rattle.answer_streams.specs.declared.audited_fronts.FrontAudited.TheVariants
 use Rattle.answer_streams.specs.Verdicts.{plain_verdict, verdict_status}
 use Rattle.answer_streams.specs.Audited.{ReducedVerdictOf, BoundedVerdictOf, ExplainedVerdictOf, FrontVerdictOf}
 use Rattle.answer_streams.specs.Audited.{verdict_of_kind, audit_verdict, audit_status, audit_line, IsTrueVerdict}
-use Rattle.answer_streams.specs.Audited.{IsExplainedAs, IsFrontToldAs, IsToldAs}
+use Rattle.answer_streams.specs.Audited.{IsExplainedAs, IsFrontReportedAs, IsReportedAs}
 use Rattle.answer_streams.proofs.Lined.{front_line}
 use Rattle.pack_command.specs.Asked.{AsksToSolve, AsksTask, AsksNothing, IsLongReading}
 use Rattle.pack_command.specs.Audits.{IsVerifiedAuditClaim}
@@ -225,21 +225,21 @@ audited_claimed old new sunk_old sunk_new status zero a =
 -- ---- how a verdict is reported
 
 pub told_reduced : (verdict : Verdict) (is : Result Claim Refusal) → plain_verdict verdict ≡ is
-    → IsToldAs (ReducedVerdictOf is) (ToldReduced verdict)
+    → IsReportedAs (ReducedVerdictOf is) (ToldReduced verdict)
 told_reduced verdict is e = record { line = ap reduced_verdict_line e; status = ap verdict_status e }
 
 pub told_bounded : (verdict : Verdict) (is : Result Claim Refusal) → plain_verdict verdict ≡ is
-    → IsToldAs (BoundedVerdictOf is) (ToldBounded verdict)
+    → IsReportedAs (BoundedVerdictOf is) (ToldBounded verdict)
 told_bounded verdict is e = record { line = ap bounded_verdict_line e; status = ap verdict_status e }
 
 pub told_explained : (verdict : ExplainedVerdict) (is : Result PlainInstance ExplainedRefusal)
-    → IsExplainedAs is verdict → IsToldAs (ExplainedVerdictOf is) (ToldExplained verdict)
+    → IsExplainedAs is verdict → IsReportedAs (ExplainedVerdictOf is) (ToldExplained verdict)
 told_explained Verified is e = record { line = ap explained_line (sym e.1); status = ap explained_status (sym e.1) }
 told_explained (Refused line reason) is e =
     record { line = ap explained_line (sym e); status = ap explained_status (sym e) }
 
-pub told_fronts : (verdict : FrontAudited) (is : Result FrontRead Refusal) → IsFrontToldAs is verdict
-    → IsToldAs (FrontVerdictOf is) (ToldFront verdict)
+pub told_fronts : (verdict : FrontAudited) (is : Result FrontRead Refusal) → IsFrontReportedAs is verdict
+    → IsReportedAs (FrontVerdictOf is) (ToldFront verdict)
 told_fronts (VerifiedFront complete points) is e =
     record {
       line = front_line complete points e.0 ∙ ap front_verdict_line (sym e.1);
@@ -250,6 +250,6 @@ told_fronts (RefusedFront line reason) is e =
 
 -- a verdict of the kind of the bytes
 pub told_as : (bytes : List ℕ) (kind : DocumentKind) (stated : AuditedVerdict) → kind ≡ document_kind bytes
-    → IsToldAs (verdict_of_kind kind bytes) stated
-    → IsToldAs (audit_verdict bytes) stated
-told_as bytes kind stated e h = subst (λ k. IsToldAs (verdict_of_kind k bytes) stated) e h
+    → IsReportedAs (verdict_of_kind kind bytes) stated
+    → IsReportedAs (audit_verdict bytes) stated
+told_as bytes kind stated e h = subst (λ k. IsReportedAs (verdict_of_kind k bytes) stated) e h

@@ -23,7 +23,7 @@ use Rattle.answer_streams.specs.declared.verdict.Verdict.{Verdict}
 use Rattle.answer_streams.specs.declared.verdict.Verdict.TheVariants.{Verified as VerifiedAs, Refused as RefusedAs}
 use Rattle.answer_streams.specs.declared.audited.AuditedVerdict.{AuditedVerdict}
 use Rattle.answer_streams.specs.declared.audited.AuditedVerdict.TheVariants.{Bounded as ToldBounded}
-use Rattle.answer_streams.specs.Audited.{audit_verdict, IsToldAs}
+use Rattle.answer_streams.specs.Audited.{audit_verdict, IsReportedAs}
 use Rattle.answer_streams.specs.Verdicts.{plain_verdict}
 use Rattle.pack_command.specs.Counts.{CountsReads}
 use Rattle.pack_command.specs.Inputs.{max_audit_bytes}
@@ -104,12 +104,12 @@ module _ (old mid new : Option (List ℕ)) (before between now : FaultCount) (s 
 -- a document that was held whole
 pub held_read : (old new : Option (List ℕ)) (o : Opened) (bytes : Vec ℕ Global) → o ≡ Whole bytes
     → IsOpened max_audit_bytes old new (Ok o) → (verdict : AuditedVerdict) (held : List ℕ) → held ≡ bytes.items
-    → IsToldAs (audit_verdict held) verdict → IsAuditRead old new (Ok verdict)
+    → IsReportedAs (audit_verdict held) verdict → IsAuditRead old new (Ok verdict)
 held_read old new o bytes is opened verdict held same stated =
     let whole = subst (λ x. IsOpened max_audit_bytes old new (Ok x)) is opened in (
       bytes.items,
       inl (whole.3, record { taken = whole.0; ended = whole.1; within = whole.2 }),
-      subst (λ xs. IsToldAs (audit_verdict xs) verdict) same stated,
+      subst (λ xs. IsReportedAs (audit_verdict xs) verdict) same stated,
     )
 
 -- one that goes on behind its heading

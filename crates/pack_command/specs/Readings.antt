@@ -7,7 +7,7 @@ use Rattle.std.specs.Io.KnownBytes.{IsAtEnd}
 use Rattle.pack_streams.specs.Moves.{Consumed, Appended}
 use Rattle.pack_streams.specs.Reading.{block}
 use Rattle.pack_streams.specs.Writing.{AppendedPrefix}
-use Rattle.answer_streams.specs.Audited.{audit_verdict, audit_line, audit_status, IsToldAs}
+use Rattle.answer_streams.specs.Audited.{audit_verdict, audit_line, audit_status, IsReportedAs}
 use Rattle.answer_streams.specs.declared.audited.AuditedVerdict.{AuditedVerdict}
 use Rattle.pack_command.specs.ByLines.{AreHeld, IsBoundedTaken, IsUnaudited, AreAuditable, AreTooMany}
 use Rattle.pack_command.specs.Explanations.{IsExplainedTo}
@@ -104,5 +104,5 @@ pub record IsTaskOutput (task : DocumentTask) (bytes : List ℕ) (sunk_old sunk_
 -- the verdict of an audit, or why there is none
 abbrev pub IsAuditRead : Option (List ℕ) → Option (List ℕ) → Result AuditedVerdict Stop → Type 0
 IsAuditRead old new (Ok verdict) =
-    (bytes : List ℕ) × IsDocumentTaken Audits old new bytes × IsToldAs (audit_verdict bytes) verdict
+    (bytes : List ℕ) × IsDocumentTaken Audits old new bytes × IsReportedAs (audit_verdict bytes) verdict
 IsAuditRead old new (Err stop) = IsUnaudited old new stop

@@ -4,7 +4,7 @@ ghost use Rattle.verdict_terms.specs.Documents.{reduced_verdict, bounded_verdict
 ghost use Rattle.verdict_terms.specs.ExplainedDocuments.{explained_verdict};
 ghost use Rattle.answer_streams.specs.Verdicts.{plain_verdict};
 ghost use Rattle.verdict_terms.specs.FrontDocumentVerdicts.{front_document_verdict};
-ghost use Rattle.answer_streams.specs.Audited.{IsExplainedAs, IsFrontToldAs, IsToldAs, audit_verdict};
+ghost use Rattle.answer_streams.specs.Audited.{IsExplainedAs, IsFrontReportedAs, IsReportedAs, audit_verdict};
 ghost use Rattle.pack_command.specs.Counts.{CountsReads, CountsWrites};
 ghost use Rattle.pack_command.specs.Inputs.{max_audit_bytes};
 ghost use Rattle.pack_command.specs.ByLines.{IsRestRead};
@@ -61,7 +61,7 @@ fn explained_on(alloc: Global, bytes: &[u8]) -> Result<ExplainedVerdict, NoMemor
 
 // The verdict on them as a document of a front.
 fn front_on(alloc: Global, bytes: &[u8]) -> Result<FrontAudited, NoMemory>
-    ensures { IfOk result (IsFrontToldAs (front_document_verdict bytes.now)) }
+    ensures { IfOk result (IsFrontReportedAs (front_document_verdict bytes.now)) }
 {
     match audit_front_document(alloc, bytes) {
         FrontAudit::Verified { complete, points } => {
@@ -75,7 +75,7 @@ fn front_on(alloc: Global, bytes: &[u8]) -> Result<FrontAudited, NoMemory>
 // The verdict on the document of these bytes, as one of its kind.
 fn verdict_on(alloc: Global, bytes: &[u8]) -> Result<AuditedVerdict, NoMemory>
     requires { length bytes.now ≤ max_audit_bytes }
-    ensures { IfOk result (IsToldAs (audit_verdict bytes.now)) }
+    ensures { IfOk result (IsReportedAs (audit_verdict bytes.now)) }
 {
     match document_kind(bytes) {
         DocumentKind::Reduced => {
