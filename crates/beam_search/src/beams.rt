@@ -17,6 +17,11 @@ const MOST_DOUBLINGS: u32 = 8;
 
 const MOST_STEPS: u32 = 128;
 
+// What a unit of the area is worth in the guides of beams for values, in hundredths of what it is
+// worth in a good choice. Over 14 texts of 20 to 100 boxes no value is less than with 100, 90 and
+// 110, and those of 40, 80 and 100 boxes are 0.2, 0.2 and 1.0 % more.
+const UNIT_WORTHS: [u64; 4] = [100, 97, 105, 90];
+
 /// The memory of beams in both directions.
 #[derive(Drop)]
 pub struct Beams {
@@ -232,9 +237,9 @@ impl Beams {
             self.beam.width = width;
             for direction in 0..2 {
                 self.order(alloc, instance, direction, 2)?;
-                for part in [10u64, 9, 11] {
+                for part in UNIT_WORTHS {
                     let worth = worth.saturating_mul(part);
-                    self.add_by(direction, worth, unit.saturating_mul(10), total, best)?;
+                    self.add_by(direction, worth, unit.saturating_mul(100), total, best)?;
                 }
             }
             width = width.saturating_mul(2);
