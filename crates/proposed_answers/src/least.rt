@@ -8,6 +8,7 @@ ghost use Rattle.proposed_answers.specs.Counts.{AreFirstBounds, TellsBins, AreNa
 
 use crate::bin_testing::are_bin_numbers;
 use crate::counts::narrow_bins;
+use crate::steps::bin_tree_branchings;
 use bin_knapsack::{Bins, least_bins};
 use box_instances::{Instance, NoMemory};
 use level_search::{Bounds, Level};
@@ -33,21 +34,15 @@ fn rough(settings: &Settings) -> Settings
     }
 }
 
-// The trees of numbers of bins may have `BIN_PART` times the branchings of the budget, at most the
-// greatest budget: most of their branchings are sets that come again, at some 2 microseconds each.
-// Of 8 texts that were left open one is decided (40 boxes in three dimensions, least 9), and the
-// longest of 34 takes 11 s for 2 s.
-const BIN_PART: u64 = 6;
-
-// The settings of the last decisions.
-fn ample(settings: &Settings) -> Settings
+// The settings of the last decisions, where the boxes are placed in so many bins.
+fn ample(instance: &Instance, placed: u64, settings: &Settings) -> Settings
     ensures budget { settings.now.budget ≤ result.budget }
     ensures scales { result.scales ≡ settings.now.scales }
 {
-    let budget = settings.budget.saturating_mul(BIN_PART).min(MAX_BUDGET);
+    let branchings = bin_tree_branchings(instance, placed, settings.budget).min(MAX_BUDGET);
     Settings {
         workers: settings.workers,
-        budget: budget.max(settings.budget),
+        budget: branchings.max(settings.budget),
         scales: settings.scales,
     }
 }
@@ -122,7 +117,7 @@ fn narrowed<R: Threads + Wait + Sync, G: Gate + Sync>(
     let start = first.without_attempts();
     let near = narrow_bins(rt, alloc, &mut search, instance, start, &few, gate)?;
     let from = near.without_attempts();
-    let ample = ample(settings);
+    let ample = ample(instance, from.placed, settings);
     let bounds = narrow_bins(rt, alloc, &mut search, instance, from, &ample, gate)?;
     Ok(bins_of(bounds))
 }
@@ -131,7 +126,8 @@ fn narrowed<R: Threads + Wait + Sync, G: Gate + Sync>(
 ///
 /// It begins at bounds that the first branchings of the bin trees give, whose roots the scale
 /// functions refute, and at proposed bins that pass their test. Each number of bins between is
-/// decided by its bin tree, from both ends on, with up to six times the branchings of the budget.
+/// decided by its bin tree, from both ends on, with at least six times the branchings of the budget
+/// (at most the greatest budget), and more where bins hold few boxes.
 /// `Between` comes only where the trees of both numbers beside the two have more branchings than
 /// the budget: the one above the refuted number and the one below the placed number. `NoneFits`
 /// comes exactly where a box is longer than the container, and names the first. Which packing,

@@ -26,7 +26,7 @@ const TREE_STEPS_OF_MORE: u64 = 960;
 
 // The steps of swaps for each branching, and in any case: for boxes in a container and sets worth
 // much, and for low packings. With 60 boxes in two dimensions the low ones have 1 batch for a
-// budget of 0, 68 for 10,000 and 96 from 20,000 on. Over 32 strips of 17 to 100 boxes the mean gap
+// budget of 0, 68 for 10,000 and 96 from 14,100 on. Over 32 strips of 17 to 100 boxes the mean gap
 // to what scales refute is 2.4 % after the batches of a budget of 0 (1.9 % with twice the steps,
 // which take up to 0.2 s), 1.6 % after 26 batches for 60 boxes, and 1.5 % after 60.
 const SWAP_STEPS: u64 = 3_000_000;
@@ -70,6 +70,16 @@ const FEW_BOXES: u32 = 24;
 
 const PART_OF_MANY: u64 = 8;
 
+// The tree of a number of bins has so many times the branchings of the budget: most of them are
+// sets that come again, at some 2 microseconds each. A small budget pays for more where bins hold
+// few boxes, for so many pair steps each of its branchings, with one box more a bin than they hold
+// in the mean. Of 8 texts that were left open one is then decided with a budget of 10,000 (40 boxes
+// in three dimensions, least 9, 4.7 million branchings in 0.24 s), where 60 boxes in 5 bins take
+// 4.2 s for as many.
+const BIN_TREE_TIMES: u64 = 6;
+
+const BIN_STEPS_OF_SMALL: u64 = 12_500;
+
 // The steps of the branchings of a budget: the first ones cost `small` steps each, each further one
 // `more`.
 fn steps_of(budget: u64, small: u64, more: u64) -> u64 {
@@ -98,6 +108,15 @@ pub(crate) fn steps_of_splits(instance: &Instance, splits: u64) -> u64 {
 /// The splits of a search for a refutation that takes at most `steps` pair steps.
 pub(crate) fn splits_within(instance: &Instance, steps: u64) -> u64 {
     steps / SPLIT_COST / branching_steps(instance).max(1)
+}
+
+/// The branchings of the tree of a number of bins under a budget, where the boxes are placed in
+/// `placed` bins.
+pub(crate) fn bin_tree_branchings(instance: &Instance, placed: u64, budget: u64) -> u64 {
+    let together = u64::from(instance.len()) / placed.max(1) + 1;
+    let steps = budget.min(SMALL_BUDGET).saturating_mul(BIN_STEPS_OF_SMALL);
+    let more = steps / together.saturating_mul(together).max(1);
+    budget.saturating_mul(BIN_TREE_TIMES).saturating_add(more)
 }
 
 // The steps that swaps for boxes in a container, or for sets worth much, may take under a budget.
