@@ -10,3 +10,4 @@ pub mod FollowedChanges
 pub mod KnownWeights
 mod OverLong
 pub mod PropagatedWeights
+pub mod ListedChains

@@ -12,9 +12,8 @@ ghost use Rattle.edge_state.specs.Work.{IsUnordered};
 ghost use Rattle.orientation_rules.specs.Pending.{AreFollowed, AreHeld};
 
 use box_instances::Instance;
-use early_chains::{apply_long_chain, find_chain};
 use edge_state::{BitRow, ChainWeights, EdgeState, Exclusion, Mark, Mask};
-use orientation_rules::PendingChains;
+use orientation_rules::{PendingChains, apply_long_chain, find_chain};
 
 // Looks for an over-long chain through `x`, and empties a mask of it. Returns whether there was
 // one.
