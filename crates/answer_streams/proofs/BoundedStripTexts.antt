@@ -13,8 +13,8 @@ use Rattle.text_terms.specs.Spelling.{spaced, lines_text, instance_text}
 use Rattle.text_terms.specs.Claims.{result_words}
 use Rattle.verdict_terms.specs.FamilyRefutation.{FamilyToken as PlainFamily, Plain}
 use Rattle.verdict_terms.specs.FamilyLines.{family_token_words, family_token_line, family_token_text}
-use Rattle.family_tokens.specs.declared.token.FamilyToken.{FamilyToken}
-use Rattle.family_tokens.specs.Plain.{plain_family, plain_family_tokens}
+use Rattle.bounded_tokens.specs.declared.family_token.FamilyToken.{FamilyToken}
+use Rattle.bounded_tokens.specs.FamilyPlain.{plain_family, plain_family_tokens}
 use Rattle.proof_tree.specs.Lines.{token_line, token_text}
 use Rattle.answer_terms.specs.Answers.{Lines, place_lines, claim_status}
 use Rattle.answer_terms.specs.HeightAnswers.{BoundedHeights, Heights, NoneFits, strip_claim, strip_status, heights_backing}

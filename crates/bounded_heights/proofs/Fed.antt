@@ -9,8 +9,8 @@ use Rattle.verdict_terms.specs.Checking.{Checked, starting, is_whole}
 use Rattle.verdict_terms.specs.FamilyRefutation.{FamilyToken as PlainFamily, FamilyNode, Free, RefutesFamilies}
 use Rattle.verdict_terms.specs.FamilyChecking.{family_checked, family_checked_all}
 use Rattle.verdict_terms.proofs.FamilyTrees.{families_in_trees}
-use Rattle.family_tokens.specs.declared.token.FamilyToken.{FamilyToken}
-use Rattle.family_tokens.specs.Plain.{plain_family}
+use Rattle.bounded_tokens.specs.declared.family_token.FamilyToken.{FamilyToken}
+use Rattle.bounded_tokens.specs.FamilyPlain.{plain_family}
 use Rattle.family_check.specs.FamilyRefuters.{PlainFamilyRefuter, fed_family}
 use Rattle.answer_terms.specs.HeightAnswers.{AreJoining}
 

@@ -7,8 +7,8 @@ use Rattle.text_terms.specs.declared.settings.Settings.{Settings}
 use Rattle.tree_terms.specs.Levels.{height_run}
 use Rattle.tree_terms.specs.RunEnds.{HasHeightPastBudget}
 use Rattle.verdict_terms.specs.FamilyRefutation.{FamilyToken as PlainFamilyToken, Plain as PlainPlain, Free, RefutesFamilies}
-use Rattle.family_tokens.specs.declared.token.FamilyToken.{FamilyToken}
-use Rattle.family_tokens.specs.Plain.{plain_family_tokens}
+use Rattle.bounded_tokens.specs.declared.family_token.FamilyToken.{FamilyToken}
+use Rattle.bounded_tokens.specs.FamilyPlain.{plain_family_tokens}
 use Rattle.answer_terms.specs.HeightAnswers.{BoundedHeights, BoundedStrip as PlainStrip, Heights, NoneFits as PlainNoneFits}
 use Rattle.answer_terms.specs.HeightAnswers.{AreBoundedHeights, IsBoundedStrip, AreJoining}
 use Rattle.strip_solver.specs.declared.strip.Strip.{Strip}

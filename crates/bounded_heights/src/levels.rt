@@ -3,7 +3,7 @@ ghost use Rattle.std.specs.Prelude.{◌≡◌, ◌==◌, ◌<◌, suc};
 ghost use Rattle.packing_terms.specs.Packing.{PlainInstance};
 ghost use Rattle.bounded_heights.specs.Heights.{AreLevels, IsWithin, AreRefutedBy};
 
-use family_tokens::FamilyToken;
+use bounded_tokens::FamilyToken;
 use proof_tree::CompactTokens;
 
 /// The refutation of a height: the tokens of a class tree, or of one with families.

@@ -3,14 +3,14 @@ ghost use Rattle.std.specs.Prelude.{◌≡◌, ◌≤◌, ◌∷◌, [], true, l
 ghost use Rattle.packing_terms.specs.Limits.{max_height};
 ghost use Rattle.verdict_terms.specs.FamilyRefutation.{Free, RefutesFamilies};
 ghost use Rattle.verdict_terms.specs.FamilyLines.{most_joining};
-ghost use Rattle.family_tokens.specs.Plain.{plain_family, plain_family_tokens};
+ghost use Rattle.bounded_tokens.specs.FamilyPlain.{plain_family, plain_family_tokens};
 ghost use Rattle.answer_terms.specs.HeightAnswers.{AreJoining};
 ghost use Rattle.bounded_heights.specs.Heights.{AreRefutedBy};
 
+use bounded_tokens::FamilyToken;
 use box_instances::{Instance, NoMemory};
 use family_check::FamilyRefuter;
 use family_proposals::propose_family;
-use family_tokens::FamilyToken;
 use std::alloc::Global;
 
 /// Whether tokens are a refutation with families: the boxes don't fit the container.

@@ -1,4 +1,4 @@
-//! Tokens once more.
+//! Copies of the tokens of a bounded refutation.
 ghost use Rattle.std.specs.Prelude.{◌≡◌, IfOk};
 ghost use Rattle.bounded_tokens.specs.Plain.{plain_bounded};
 

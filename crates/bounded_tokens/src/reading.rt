@@ -1,4 +1,4 @@
-//! The token that a line is.
+//! The token of a bounded refutation that a line is.
 ghost use Rattle.std.specs.Prelude.{◌≡◌, ◌≤◌, length, drop, option_map};
 ghost use Rattle.text_terms.specs.Feeding.{ended_line};
 ghost use Rattle.text_terms.specs.TokenLines.{line_token};

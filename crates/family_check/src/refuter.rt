@@ -4,13 +4,13 @@ ghost use Rattle.packing_terms.specs.Exclusions.{AreAtEdges};
 ghost use Rattle.verdict_terms.specs.Checking.{starting, answered, is_whole};
 ghost use Rattle.proof_tree.specs.Plain.{plain_token};
 ghost use Rattle.verdict_terms.specs.FamilyRefutation.{Plain, Family, Free};
-ghost use Rattle.family_tokens.specs.Plain.{plain_family};
+ghost use Rattle.bounded_tokens.specs.FamilyPlain.{plain_family};
 ghost use Rattle.family_check.specs.FamilyRefuters.{fed_family};
 ghost use Rattle.family_check.specs.Answers.{refusal_in, is_begun_in};
 
+use bounded_tokens::{FamilyToken, Token};
 use box_instances::{Instance, NoMemory};
 use edge_state::Exclusion;
-use family_tokens::{FamilyToken, Token};
 use refutation_check::Refuter;
 use std::alloc::Global;
 use std::marker::Model;

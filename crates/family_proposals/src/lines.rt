@@ -1,7 +1,7 @@
 //! The lines of a family.
 
+use bounded_tokens::{FamilyToken, JoiningBoxes};
 use box_instances::NoMemory;
-use family_tokens::{FamilyToken, JoiningBoxes};
 use std::alloc::Global;
 
 // Appends the line of the boxes that join next.

@@ -3,9 +3,9 @@
 use crate::growing::{JoinOrder, grown, sorted_boxes};
 use crate::lines::family_lines;
 use crate::space::{Root, apart_rows, test_root};
+use bounded_tokens::{FamilyToken, Token};
 use box_instances::{Instance, NoMemory};
 use edge_state::EdgeState;
-use family_tokens::{FamilyToken, Token};
 use std::alloc::Global;
 
 // A family in one dimension that is longer than the container: begun with each box in turn, and

@@ -1,9 +1,9 @@
 //! The root: what closes it, or the pairs of boxes that are apart in every packing.
 use crate::slots::bit;
+use bounded_tokens::Token;
 use box_instances::{Instance, NoMemory};
 use class_search::first_too_large;
 use edge_state::EdgeState;
-use family_tokens::Token;
 use lenient_lists::pushed;
 use packing_terms::Rel;
 use rule_closure::{Closed, Closer};

@@ -1,5 +1,5 @@
 //! Lines of families, read, copied and written.
-use family_tokens::{FamilyToken, copy_family_token, read_family_token, write_family_token};
+use bounded_tokens::{FamilyToken, copy_family_token, read_family_token, write_family_token};
 use instance_text::LineLexer;
 use pack_streams::MemorySink;
 use std::alloc::Global;

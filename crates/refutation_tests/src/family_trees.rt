@@ -2,7 +2,7 @@
 use crate::verdicts::is_wanted;
 use box_instances::{BoxItem, Instance, Sides};
 use family_check::{FamilyRefuter, FeedVerdict, RefuseCode};
-use family_tokens::{FamilyToken, JoiningBoxes, Token};
+use bounded_tokens::{FamilyToken, JoiningBoxes, Token};
 use std::alloc::Global;
 use std::test::Fail;
 

@@ -1,7 +1,7 @@
 use Rattle.std.proofs.Common.{take}
 use Rattle.pack_streams.specs.Writing.{Continues}
 use Rattle.verdict_terms.specs.FamilyLines.{family_token_text}
-use Rattle.family_tokens.specs.Plain.{plain_family_tokens}
+use Rattle.bounded_tokens.specs.FamilyPlain.{plain_family_tokens}
 use Rattle.answer_streams.proofs.bounded_strips.write_family_tokens.Given as goal
 
 abbrev pub invariant-loop-k : goal.invariant-loop-k

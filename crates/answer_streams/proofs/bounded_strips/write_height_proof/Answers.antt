@@ -1,8 +1,8 @@
 use Rattle.std.proofs.Common.{◌∙◌, sym, ap, codes, ◌++◌, List}
 use Rattle.pack_streams.proofs.Writers.{more, same}
 use Rattle.verdict_terms.specs.FamilyLines.{family_token_text}
-use Rattle.family_tokens.specs.declared.token.FamilyToken.{FamilyToken}
-use Rattle.family_tokens.specs.Plain.{plain_family_tokens}
+use Rattle.bounded_tokens.specs.declared.family_token.FamilyToken.{FamilyToken}
+use Rattle.bounded_tokens.specs.FamilyPlain.{plain_family_tokens}
 use Rattle.bounded_heights.specs.declared.levels.HeightProof.{HeightProof}
 use Rattle.bounded_heights.specs.Heights.{plain_proof}
 use Rattle.answer_streams.proofs.BoundedStripTexts.{plain_text}

@@ -1,5 +1,5 @@
 use Rattle.std.proofs.Common.{map, take}
-use Rattle.family_tokens.specs.Plain.{plain_family}
+use Rattle.bounded_tokens.specs.FamilyPlain.{plain_family}
 use Rattle.answer_terms.specs.HeightAnswers.{AreJoining}
 use Rattle.bounded_heights.proofs.refuting.are_joining.Given as goal
 

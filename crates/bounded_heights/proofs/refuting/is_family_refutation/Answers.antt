@@ -1,8 +1,8 @@
 use Rattle.std.proofs.Common.{◌∙◌, ap, map, List}
 use Rattle.std.proofs.lemmas.List.{take_all}
 use Rattle.verdict_terms.specs.Checking.{is_whole}
-use Rattle.family_tokens.specs.declared.token.FamilyToken.{FamilyToken}
-use Rattle.family_tokens.specs.Plain.{plain_family}
+use Rattle.bounded_tokens.specs.declared.family_token.FamilyToken.{FamilyToken}
+use Rattle.bounded_tokens.specs.FamilyPlain.{plain_family}
 use Rattle.family_check.specs.FamilyRefuters.{PlainFamilyRefuter}
 use Rattle.bounded_heights.proofs.Fed.{fed_all, fed_next, families_tested}
 use Rattle.bounded_heights.proofs.refuting.is_family_refutation.Goals as goal

@@ -1,5 +1,5 @@
 use Rattle.std.proofs.Common.{◌≡◌, map, take}
-use Rattle.family_tokens.specs.Plain.{plain_family}
+use Rattle.bounded_tokens.specs.FamilyPlain.{plain_family}
 use Rattle.bounded_heights.proofs.Fed.{fed_all}
 use Rattle.bounded_heights.proofs.refuting.is_family_refutation.Given as goal
 

@@ -1,7 +1,7 @@
 use Rattle.std.proofs.Common.{◌≤◌, sym, subst, ℕ, List, [], ◌∷◌, length}
 use Rattle.verdict_terms.specs.FamilyLines.{most_joining}
-use Rattle.family_tokens.specs.declared.token.FamilyToken.{FamilyToken}
-use Rattle.family_tokens.specs.Plain.{plain_family}
+use Rattle.bounded_tokens.specs.declared.family_token.FamilyToken.{FamilyToken}
+use Rattle.bounded_tokens.specs.FamilyPlain.{plain_family}
 use Rattle.answer_terms.specs.HeightAnswers.{AreJoining}
 use Rattle.bounded_heights.proofs.refuting.is_joining.Goals as goal
 

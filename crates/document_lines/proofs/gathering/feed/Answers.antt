@@ -1,4 +1,4 @@
-use Rattle.family_tokens.specs.Plain.{plain_family}
+use Rattle.bounded_tokens.specs.FamilyPlain.{plain_family}
 use Rattle.document_lines.proofs.Families.{family_feeds, family_same}
 use Rattle.document_lines.proofs.gathering.feed.Goals as goal
 

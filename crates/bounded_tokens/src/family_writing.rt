@@ -1,12 +1,12 @@
-//! The line of a token, in its one spelling.
+//! The line of a token of a refutation with families, in its one spelling.
 ghost use Rattle.std.specs.Prelude.{◌∷◌, ◌++◌, [], map, codes};
 ghost use Rattle.std.specs.Fmt.{decimal};
 ghost use Rattle.pack_streams.specs.Writing.{Continues, Writes};
 ghost use Rattle.instance_text.specs.Writing.{after_spaces};
 ghost use Rattle.verdict_terms.specs.FamilyLines.{family_token_line};
-ghost use Rattle.family_tokens.specs.Plain.{plain_family};
+ghost use Rattle.bounded_tokens.specs.FamilyPlain.{plain_family};
 
-use crate::FamilyToken;
+use crate::family_token::FamilyToken;
 use instance_text::write_numbers;
 use pack_streams::{Sink, WriteFault, write_on};
 use proof_tree::write_token_on;

@@ -1,7 +1,7 @@
 use Rattle.std.proofs.Common.{arith, sym, ap, ◌∙◌}
 use Rattle.std.specs.Prelude.{option_map}
-use Rattle.family_tokens.proofs.Joining.{few_words, many_words, good_line}
-use Rattle.family_tokens.proofs.reading.family_token.Goals as goal
+use Rattle.bounded_tokens.proofs.Joining.{few_words, many_words, good_line}
+use Rattle.bounded_tokens.proofs.family_reading.family_token.Goals as goal
 
 pub returns-then-count-lt3 : goal.returns-then-count-lt3
 returns-then-count-lt3 c =

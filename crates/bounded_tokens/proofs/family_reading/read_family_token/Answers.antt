@@ -1,8 +1,8 @@
 use Rattle.std.proofs.Common.{arith, sym, ap, ◌∙◌, codes}
 use Rattle.text_terms.specs.Lines.{same_bytes}
 use Rattle.text_terms.specs.Feeding.{ended_line}
-use Rattle.family_tokens.proofs.FirstWords.{empty_line, family_line, plain_line}
-use Rattle.family_tokens.proofs.reading.read_family_token.Goals as goal
+use Rattle.bounded_tokens.proofs.FamilyWords.{empty_line, family_line, plain_line}
+use Rattle.bounded_tokens.proofs.family_reading.read_family_token.Goals as goal
 
 pub returns-then-word_count-eq0 : goal.returns-then-word_count-eq0
 returns-then-word_count-eq0 c =

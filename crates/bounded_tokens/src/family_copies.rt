@@ -1,8 +1,8 @@
-//! Tokens once more.
+//! Copies of the tokens of a refutation with families.
 ghost use Rattle.std.specs.Prelude.{◌≡◌, IfOk};
-ghost use Rattle.family_tokens.specs.Plain.{plain_family};
+ghost use Rattle.bounded_tokens.specs.FamilyPlain.{plain_family};
 
-use crate::{FamilyToken, JoiningBoxes};
+use crate::family_token::{FamilyToken, JoiningBoxes};
 use box_instances::NoMemory;
 use proof_tree::copy_token;
 use std::alloc::Global;

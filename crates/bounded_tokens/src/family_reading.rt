@@ -1,12 +1,12 @@
-//! The token that a line is.
+//! The token of a refutation with families that a line is.
 ghost use Rattle.std.specs.Prelude.{◌≡◌, ◌≤◌, length, drop, option_map};
 ghost use Rattle.text_terms.specs.Feeding.{ended_line};
 ghost use Rattle.text_terms.specs.TokenLines.{parameters, line_token};
 ghost use Rattle.verdict_terms.specs.FamilyRefutation.{Plain};
 ghost use Rattle.verdict_terms.specs.FamilyLines.{family_by, family_line_token};
-ghost use Rattle.family_tokens.specs.Plain.{plain_family};
+ghost use Rattle.bounded_tokens.specs.FamilyPlain.{plain_family};
 
-use crate::{FamilyToken, JoiningBoxes};
+use crate::family_token::{FamilyToken, JoiningBoxes};
 use instance_text::{LineLexer, is_same};
 use proof_tree::{parameter_at, read_token};
 use std::alloc::Global;

@@ -2,8 +2,8 @@
 use Rattle.std.specs.Prelude.{List, map}
 use Rattle.verdict_terms.specs.FamilyRefutation.{FamilyToken as PlainToken, Plain as PlainPlain, Family as PlainFamily}
 use Rattle.proof_tree.specs.Plain.{plain_token}
-use Rattle.family_tokens.specs.declared.token.FamilyToken.{FamilyToken}
-use Rattle.family_tokens.specs.declared.token.FamilyToken.TheVariants.{Plain, Family}
+use Rattle.bounded_tokens.specs.declared.family_token.FamilyToken.{FamilyToken}
+use Rattle.bounded_tokens.specs.declared.family_token.FamilyToken.TheVariants.{Plain, Family}
 
 -- a token, with its boxes as a list
 abbrev pub plain_family : FamilyToken → PlainToken

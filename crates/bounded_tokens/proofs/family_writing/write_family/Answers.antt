@@ -1,5 +1,5 @@
 use Rattle.pack_streams.proofs.Writers.{more}
-use Rattle.family_tokens.proofs.writing.write_family.Goals as goal
+use Rattle.bounded_tokens.proofs.family_writing.write_family.Goals as goal
 
 pub returns : goal.returns
 returns g c = more _ _ _ _ _ _ _ _ _ _ _

@@ -1,5 +1,0 @@
-use Rattle.family_tokens.proofs.Joining.{AreJoined}
-use Rattle.family_tokens.proofs.reading.joining_boxes.Given as goal
-
-abbrev pub invariant-loop-k : goal.invariant-loop-k
-invariant-loop-k l = AreJoined l.line.held.words 2 l.k l.boxes.items
