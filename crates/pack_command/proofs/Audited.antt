@@ -55,7 +55,7 @@ use Rattle.pack_command.specs.declared.stop.Stop.TheVariants.{NoMemory}
 use Rattle.pack_command.proofs.Written.{taken_all, taken_within}
 use Rattle.pack_command.proofs.Checked.{told_rest, reached_under}
 use Rattle.pack_command.proofs.ByLines.{never_long, none_taken}
-use Rattle.document_openings.proofs.Telling.{lines_go_on}
+use Rattle.document_audits.proofs.Telling.{lines_go_on}
 use Rattle.pack_command.proofs.Generating.{no_task, task_solves, task_checks, same_task}
 use Rattle.pack_command.proofs.OneJob.{front_tasks, proposed_tasks}
 

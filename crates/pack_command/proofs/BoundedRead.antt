@@ -15,10 +15,10 @@ use Rattle.document_check.specs.declared.check.CheckEnd.TheVariants.{Verified, R
 use Rattle.document_check.specs.declared.check.CheckEnd.TheVariants.{ReadFault as CheckReadFault}
 use Rattle.document_check.specs.declared.check.CheckEnd.TheVariants.{NoMemory as CheckNoMemory}
 use Rattle.document_check.specs.Checked.{IsCheckedBehind}
-use Rattle.document_openings.specs.declared.opening.Opened.{Opened}
-use Rattle.document_openings.specs.declared.opening.Opened.TheVariants.{Whole, Begun}
-use Rattle.document_openings.specs.Reading.{IsBegun, IsOpened}
-use Rattle.document_openings.proofs.Telling.{begun_by_lines}
+use Rattle.document_audits.specs.declared.opening.Opened.{Opened}
+use Rattle.document_audits.specs.declared.opening.Opened.TheVariants.{Whole, Begun}
+use Rattle.document_audits.specs.Reading.{IsBegun, IsOpened}
+use Rattle.document_audits.proofs.Telling.{begun_by_lines}
 use Rattle.answer_streams.specs.declared.verdict.Verdict.{Verdict}
 use Rattle.answer_streams.specs.declared.verdict.Verdict.TheVariants.{Verified as VerifiedAs, Refused as RefusedAs}
 use Rattle.answer_streams.specs.declared.audited.AuditedVerdict.{AuditedVerdict}

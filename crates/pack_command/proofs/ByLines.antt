@@ -3,7 +3,7 @@ use Rattle.std.proofs.Common.{◌≡◌, ℕ, inl, inr, sym, ap, subst, arith, L
 use Rattle.std.proofs.Common.{Option, Some}
 use Rattle.verdict_terms.specs.declared.heading.Heading.TheVariants.{Bounded}
 use Rattle.verdict_terms.specs.Documents.{bounded_verdict}
-use Rattle.document_openings.proofs.Telling.{one_way, lines_go_on, lines_come_back}
+use Rattle.document_audits.proofs.Telling.{one_way, lines_go_on, lines_come_back}
 use Rattle.pack_command.specs.Inputs.{max_audit_bytes}
 use Rattle.pack_command.specs.ByLines.{AreByLines, IsUnaudited}
 use Rattle.pack_command.specs.ByLines.{AreAuditable, AreTooMany}

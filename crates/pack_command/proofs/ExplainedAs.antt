@@ -20,7 +20,7 @@ use Rattle.verdict_terms.specs.Explaining.{Explains}
 use Rattle.answer_terms.specs.Explained.{explained_text}
 use Rattle.answer_streams.specs.Audited.{ExplainedVerdictOf, verdict_of_kind, audit_verdict}
 use Rattle.answer_terms.proofs.OwnExplained.{own_explained}
-use Rattle.document_refutations.specs.Refutations.{IsRefutationIn, result_number}
+use Rattle.document_audits.specs.Refutations.{IsRefutationIn, result_number}
 use Rattle.pack_command.specs.Explanations.{is_no, IsExplanation, IsWrittenFor, unexplained}
 
 -- the tokens of the document refute its instance

@@ -17,7 +17,7 @@ use Rattle.document_check.specs.declared.check.CheckEnd.TheVariants.{Verified, R
 use Rattle.document_check.specs.declared.check.CheckEnd.TheVariants.{ReadFault as CheckReadFault}
 use Rattle.document_check.specs.declared.check.CheckEnd.TheVariants.{NoMemory as CheckNoMemory}
 use Rattle.document_check.specs.Checked.{max_check_bytes, IsRestChecked}
-use Rattle.document_openings.specs.Openings.{IsReadByLines, IsReadWhole}
+use Rattle.document_audits.specs.Openings.{IsReadByLines, IsReadWhole}
 use Rattle.answer_streams.specs.declared.verdict.Verdict.{Verdict}
 use Rattle.answer_streams.specs.declared.verdict.Verdict.TheVariants.{Verified as VerifiedAs, Refused as RefusedAs}
 use Rattle.pack_command.specs.Checks.{HasVerdictUnder, IsPastLimitUnder, IsBrokenOffUnder, IsGivenUpUnder}

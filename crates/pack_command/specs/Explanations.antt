@@ -10,7 +10,7 @@ use Rattle.verdict_terms.specs.Form.{IsDocument}
 use Rattle.verdict_terms.specs.Steps.{PlainStep, tokens_among}
 use Rattle.verdict_terms.specs.Explaining.{Explains}
 use Rattle.answer_terms.specs.Explained.{explained_text}
-use Rattle.document_refutations.specs.Refutations.{result_number}
+use Rattle.document_audits.specs.Refutations.{result_number}
 use Rattle.answer_streams.specs.declared.explained.Explanation.{Explanation}
 use Rattle.answer_streams.specs.Audited.{audit_verdict, ExplainedVerdictOf}
 use Rattle.answer_streams.specs.Explanations.{explanation_text, explanation_status, IsWritable}

@@ -1,5 +1,5 @@
 //! Explained documents that stand in memory, and the audit of each.
-use explained_check::{ExplainedAudit, audit_explained, document_kind};
+use document_audits::{ExplainedAudit, audit_explained, document_kind};
 use std::alloc::Global;
 use std::test::Fail;
 use verdict_terms::{AuditCode, DocumentKind, ExplainedReason};

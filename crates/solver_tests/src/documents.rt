@@ -1,5 +1,5 @@
 //! Documents of fronts that stand in memory, and the audit of each.
-use front_documents::{FrontAudit, audit_front_document};
+use document_audits::{FrontAudit, audit_front_document};
 use std::alloc::Global;
 use std::test::Fail;
 use verdict_terms::{Reason, RefuseCode};

@@ -1,0 +1,13 @@
+pub mod Verdicts
+pub mod Parts
+pub mod Telling
+pub mod Rest
+pub mod Openings
+pub mod Rows
+pub mod Numbers
+pub mod Describing
+pub mod Held
+pub mod FrontCursors
+pub mod FrontWords
+pub mod FrontOpened
+pub mod FrontRead

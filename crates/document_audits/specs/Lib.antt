@@ -1,0 +1,11 @@
+pub mod ExplainedAudits
+pub mod ExplainedHeads
+pub mod ExplainedTrees
+pub mod Openings
+pub mod Reading
+pub mod Rereading
+pub mod Refutations
+pub mod FrontAudits
+pub mod FrontHeads
+pub mod FrontNames
+pub mod FrontParts

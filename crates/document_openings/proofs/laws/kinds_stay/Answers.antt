@@ -1,5 +1,0 @@
-use Rattle.document_openings.proofs.Telling.{kinds_stay, telling_stays}
-use Rattle.document_openings.proofs.laws.kinds_stay.Goals as goal
-
-pub returns : goal.returns
-returns c = record { kind = kinds_stay; telling = telling_stays }

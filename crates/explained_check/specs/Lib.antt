@@ -1,3 +1,0 @@
-pub mod Audits
-pub mod Heads
-pub mod Trees

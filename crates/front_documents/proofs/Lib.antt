@@ -1,4 +1,0 @@
-pub mod Cursors
-pub mod Words
-pub mod Opened
-pub mod Read

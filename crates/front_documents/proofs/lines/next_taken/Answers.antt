@@ -1,6 +1,0 @@
-use Rattle.front_documents.proofs.Cursors.{next_told}
-use Rattle.front_documents.proofs.lines.next_taken.Goals as goal
-
-pub returns-clause-line : goal.returns-clause-line
-returns-clause-line c = next_told c.args.bytes.now c.args.at.now c.next_filled.new.at c.next_filled.result
-    c.next_filled.ensures.line

@@ -1,4 +1,0 @@
-pub mod Audits
-pub mod Heads
-pub mod Named
-pub mod Parts
