@@ -1,8 +1,8 @@
 -- What the writer of a document of `bounded strip` needs to know of an answer.
 use Rattle.std.specs.Prelude.{ℕ, ◌<◌, ◌*◌, ◌≡◌, length}
 use Rattle.packing_terms.specs.Packing.{PlainInstance, dims, box_count}
-use Rattle.bounded_heights.specs.declared.levels.BoundedStrip.{BoundedStrip}
-use Rattle.bounded_heights.specs.declared.levels.BoundedStrip.TheVariants.{Levels, NoneFits}
+use Rattle.bounded_answers.specs.declared.height_levels.BoundedStrip.{BoundedStrip}
+use Rattle.bounded_answers.specs.declared.height_levels.BoundedStrip.TheVariants.{Levels, NoneFits}
 
 -- the placed height is above the refuted one
 abbrev pub IsRising : BoundedStrip → Type 0

@@ -7,13 +7,13 @@ ghost use Rattle.text_terms.specs.Claims.{result_words};
 ghost use Rattle.verdict_terms.specs.BoundedLines.{bounded_token_text};
 ghost use Rattle.bounded_tokens.specs.Plain.{plain_bounded_tokens};
 ghost use Rattle.answer_terms.specs.BoundedAnswers.{bounded_claim, bounded_status, bounded_text};
-ghost use Rattle.bounded_choice.specs.Levels.{plain_levels, plain_proof};
+ghost use Rattle.bounded_answers.specs.ValueLevels.{plain_levels, plain_proof};
 
 use crate::documents::Written;
 use crate::knapsack_documents::{write_greatest_line, write_taken};
 use crate::results::{write_between_line, write_opening, write_proof};
 use crate::streaming::Streamed;
-use bounded_choice::{ValueLevels, ValueProof};
+use bounded_answers::{ValueLevels, ValueProof};
 use bounded_tokens::{BoundedToken, write_bounded_token_on};
 use box_instances::Instance;
 use pack_streams::{Sink, write_on};

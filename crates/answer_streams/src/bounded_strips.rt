@@ -8,13 +8,13 @@ ghost use Rattle.text_terms.specs.Claims.{result_words};
 ghost use Rattle.verdict_terms.specs.FamilyLines.{family_token_text};
 ghost use Rattle.bounded_tokens.specs.FamilyPlain.{plain_family_tokens};
 ghost use Rattle.answer_terms.specs.HeightAnswers.{Heights, NoneFits as PlainNoneFits, strip_claim, strip_status, bounded_strip_text};
-ghost use Rattle.bounded_heights.specs.Heights.{plain_levels, plain_proof, plain_strip};
+ghost use Rattle.bounded_answers.specs.Heights.{plain_levels, plain_proof, plain_strip};
 ghost use Rattle.answer_streams.specs.BoundedStrips.{IsRising, IsReadyStrip};
 
 use crate::documents::{Written, write_places};
 use crate::results::{write_between_line, write_least_line, write_none_line, write_opening, write_proof};
 use crate::streaming::Streamed;
-use bounded_heights::{BoundedStrip, HeightLevels, HeightProof};
+use bounded_answers::{BoundedStrip, HeightLevels, HeightProof};
 use bounded_tokens::{FamilyToken, write_family_token_on};
 use box_instances::Instance;
 use pack_streams::{Sink, write_on};

@@ -15,7 +15,7 @@ use Rattle.answer_terms.specs.HeightAnswers.{IsBoundedStrip, strip_claim, strip_
 use Rattle.answer_terms.proofs.HeightTrue.{bounded_strips_true, bounded_heights_told}
 use Rattle.answer_terms.proofs.HeightOwn.{own_bounded_strips_verified}
 use Rattle.answer_streams.specs.Audited.{verdict_of_kind, BoundedVerdictOf}
-use Rattle.bounded_heights.specs.Heights.{IsOpenOnlyPast}
+use Rattle.bounded_answers.specs.Heights.{IsOpenOnlyPast}
 use Rattle.pack_streams.specs.Moves.{Appended}
 use Rattle.pack_command.specs.Asked.{HeightBounds, IsProposalRun}
 use Rattle.pack_command.specs.Bounded.{IsOwnBounded}

@@ -11,7 +11,7 @@ use Rattle.answer_terms.specs.Answers.{claim_status}
 use Rattle.verdict_terms.specs.BoundedRefutation.{BoundedToken, IsBoundedRefutation}
 use Rattle.answer_terms.specs.BoundedAnswers.{BoundedAnswer, IsBoundedAnswer, bounded_status, bounded_text}
 use Rattle.answer_terms.specs.BoundedLaws.{IsBoundedFor}
-use Rattle.bounded_choice.specs.Levels.{IsOpenWithout}
+use Rattle.bounded_answers.specs.ValueLevels.{IsOpenWithout}
 use Rattle.proposed_answers.specs.Shares.{level_share}
 use Rattle.proposed_answers.specs.Values.{value_count}
 use Rattle.answer_streams.specs.Audited.{audit_verdict, BoundedVerdictOf}

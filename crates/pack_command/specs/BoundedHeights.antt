@@ -8,7 +8,7 @@ use Rattle.text_terms.specs.declared.settings.Settings.{Settings}
 use Rattle.text_terms.specs.Claims.{IsHeightBetween}
 use Rattle.verdict_terms.specs.FamilyRefutation.{FamilyToken, Free, RefutesFamilies}
 use Rattle.answer_terms.specs.HeightAnswers.{BoundedStrip, Heights, NoneFits, IsBoundedStrip, strip_status, bounded_strip_text}
-use Rattle.bounded_heights.specs.Heights.{IsOpenWithout, IsOpenOnlyPast}
+use Rattle.bounded_answers.specs.Heights.{IsOpenWithout, IsOpenOnlyPast}
 use Rattle.proposed_answers.specs.Shares.{level_share}
 use Rattle.proposed_answers.specs.Heights.{height_count}
 use Rattle.pack_streams.specs.Moves.{Appended}

@@ -9,7 +9,7 @@ ghost use Rattle.pack_command.specs.Proposed.{IsProposedWritten, IsWithoutPropos
 use crate::input::read_input;
 use crate::stop::Stop;
 use answer_streams::{BoundedDocument, bounded_status, stream};
-use bounded_choice::greatest_value_bounded;
+use bounded_answers::greatest_value_bounded;
 use pack_streams::{Sink, Source};
 use std::alloc::Global;
 use std::sync::Wait;

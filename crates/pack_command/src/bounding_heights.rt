@@ -9,7 +9,7 @@ ghost use Rattle.pack_command.specs.Proposed.{IsProposedWritten, IsWithoutPropos
 use crate::input::read_input;
 use crate::stop::Stop;
 use answer_streams::{BoundedStripDocument, bounded_strip_status, stream};
-use bounded_heights::least_height_bounded;
+use bounded_answers::least_height_bounded;
 use pack_streams::{Sink, Source};
 use std::alloc::Global;
 use std::sync::Wait;

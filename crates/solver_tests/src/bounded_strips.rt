@@ -1,5 +1,5 @@
 //! The least height with families of boxes side by side.
-use bounded_heights::{BoundedStrip, HeightProof, least_height_bounded};
+use bounded_answers::{BoundedStrip, HeightProof, least_height_bounded};
 use box_instances::{BoxItem, Instance, Sides};
 use std::alloc::Global;
 use std::sync::Wait;

@@ -1,6 +1,6 @@
 //! The greatest value with priced leaves.
 use crate::instances::squares;
-use bounded_choice::{ValueLevels, ValueProof, greatest_value_bounded};
+use bounded_answers::{ValueLevels, ValueProof, greatest_value_bounded};
 use box_instances::Instance;
 use std::alloc::Global;
 use std::sync::Wait;

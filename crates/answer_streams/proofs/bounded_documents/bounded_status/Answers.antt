@@ -1,5 +1,5 @@
 use Rattle.std.proofs.Common.{◌∙◌, sym}
-use Rattle.bounded_choice.specs.Levels.{plain_levels}
+use Rattle.bounded_answers.specs.ValueLevels.{plain_levels}
 use Rattle.answer_streams.proofs.BoundedTexts.{closed_status, apart_status}
 use Rattle.answer_streams.proofs.bounded_documents.bounded_status.Goals as goal
 

@@ -1,5 +1,5 @@
 use Rattle.pack_streams.proofs.Writers.{wrote_same, later, more}
-use Rattle.bounded_choice.specs.Levels.{plain_levels}
+use Rattle.bounded_answers.specs.ValueLevels.{plain_levels}
 use Rattle.answer_streams.proofs.BoundedTexts.{bounded_parts}
 use Rattle.answer_streams.proofs.bounded_documents.write_bounded.Goals as goal
 

@@ -1,7 +1,7 @@
 use Rattle.std.proofs.Common.{◌∙◌, sym, ap, codes, List, ℕ, [], ◌∷◌}
 use Rattle.pack_streams.proofs.Writers.{same}
 use Rattle.text_terms.specs.Spelling.{lines_text}
-use Rattle.bounded_choice.specs.Levels.{plain_levels}
+use Rattle.bounded_answers.specs.ValueLevels.{plain_levels}
 use Rattle.answer_streams.proofs.BoundedTexts.{closed_words, apart_words}
 use Rattle.answer_streams.proofs.bounded_documents.write_result_line.Goals as goal
 

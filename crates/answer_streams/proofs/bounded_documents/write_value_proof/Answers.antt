@@ -3,8 +3,8 @@ use Rattle.pack_streams.proofs.Writers.{more, same}
 use Rattle.verdict_terms.specs.BoundedLines.{bounded_token_text}
 use Rattle.bounded_tokens.specs.declared.token.BoundedToken.{BoundedToken}
 use Rattle.bounded_tokens.specs.Plain.{plain_bounded_tokens}
-use Rattle.bounded_choice.specs.declared.levels.ValueProof.{ValueProof}
-use Rattle.bounded_choice.specs.Levels.{plain_proof}
+use Rattle.bounded_answers.specs.declared.value_levels.ValueProof.{ValueProof}
+use Rattle.bounded_answers.specs.ValueLevels.{plain_proof}
 use Rattle.answer_streams.proofs.BoundedTexts.{plain_text}
 use Rattle.answer_streams.proofs.bounded_documents.write_value_proof.Goals as goal
 

@@ -1,5 +1,5 @@
 use Rattle.std.proofs.Common.{◌∙◌, sym}
-use Rattle.bounded_heights.specs.Heights.{plain_levels}
+use Rattle.bounded_answers.specs.Heights.{plain_levels}
 use Rattle.answer_streams.proofs.BoundedStripTexts.{closed_status, apart_status}
 use Rattle.answer_streams.proofs.bounded_strips.levels_status.Goals as goal
 

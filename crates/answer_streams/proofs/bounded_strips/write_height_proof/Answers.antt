@@ -3,8 +3,8 @@ use Rattle.pack_streams.proofs.Writers.{more, same}
 use Rattle.verdict_terms.specs.FamilyLines.{family_token_text}
 use Rattle.bounded_tokens.specs.declared.family_token.FamilyToken.{FamilyToken}
 use Rattle.bounded_tokens.specs.FamilyPlain.{plain_family_tokens}
-use Rattle.bounded_heights.specs.declared.levels.HeightProof.{HeightProof}
-use Rattle.bounded_heights.specs.Heights.{plain_proof}
+use Rattle.bounded_answers.specs.declared.height_levels.HeightProof.{HeightProof}
+use Rattle.bounded_answers.specs.Heights.{plain_proof}
 use Rattle.answer_streams.proofs.BoundedStripTexts.{plain_text}
 use Rattle.answer_streams.proofs.bounded_strips.write_height_proof.Goals as goal
 

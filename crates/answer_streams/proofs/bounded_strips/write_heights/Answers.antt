@@ -1,6 +1,6 @@
 use Rattle.std.proofs.Common.{refl, codes}
 use Rattle.pack_streams.proofs.Writers.{wrote_same, later, more}
-use Rattle.bounded_heights.specs.Heights.{plain_levels}
+use Rattle.bounded_answers.specs.Heights.{plain_levels}
 use Rattle.answer_streams.proofs.BoundedStripTexts.{heights_parts}
 use Rattle.answer_streams.proofs.bounded_strips.write_heights.Goals as goal
 

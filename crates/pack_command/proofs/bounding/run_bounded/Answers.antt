@@ -1,6 +1,6 @@
 use Rattle.std.proofs.Common.{refl}
 use Rattle.answer_terms.specs.BoundedAnswers.{bounded_status, bounded_text}
-use Rattle.bounded_choice.specs.Levels.{plain_levels}
+use Rattle.bounded_answers.specs.ValueLevels.{plain_levels}
 use Rattle.pack_command.specs.Asked.{ValueBounds}
 use Rattle.pack_command.proofs.ProposedFound.{proposed_cut}
 use Rattle.pack_command.proofs.bounding.run_bounded.Goals as goal

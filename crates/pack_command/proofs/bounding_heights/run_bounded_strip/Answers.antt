@@ -1,6 +1,6 @@
 use Rattle.std.proofs.Common.{refl}
 use Rattle.answer_terms.specs.HeightAnswers.{strip_status, bounded_strip_text}
-use Rattle.bounded_heights.specs.Heights.{plain_strip}
+use Rattle.bounded_answers.specs.Heights.{plain_strip}
 use Rattle.pack_command.specs.Asked.{HeightBounds}
 use Rattle.pack_command.proofs.ProposedFound.{proposed_cut}
 use Rattle.pack_command.proofs.bounding_heights.run_bounded_strip.Goals as goal

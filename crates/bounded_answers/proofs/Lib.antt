@@ -1,0 +1,5 @@
+pub mod ValueFed
+pub mod Values
+pub mod ValueBases
+pub mod HeightBases
+pub mod HeightFed

@@ -1,0 +1,2 @@
+pub mod ValueLevels
+pub mod Heights

@@ -1,7 +1,0 @@
-use Rattle.std.proofs.Common.{◌≡◌, map, take}
-use Rattle.bounded_tokens.specs.FamilyPlain.{plain_family}
-use Rattle.bounded_heights.proofs.Fed.{fed_all}
-use Rattle.bounded_heights.proofs.refuting.is_family_refutation.Given as goal
-
-abbrev pub invariant-loop-k : goal.invariant-loop-k
-invariant-loop-k l = l.refuter ≡ fed_all l.instance (map plain_family (take l.k l.tokens))
