@@ -1,7 +1,6 @@
 //! The effort of proposed trees under a budget.
 
-use bounded_proposals::BoundedEffort;
-use bounded_search::TreeLimits;
+use bounded_proposals::{BoundedEffort, TreeLimits};
 
 // Steps of proposed trees for each branching of the budget: the default budget of 1,000,000 allows
 // 200,000,000 steps of 30 to 60 nanoseconds, some 8 s. With 250 for each branching the same 33 of

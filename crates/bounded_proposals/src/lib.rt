@@ -1,12 +1,43 @@
-//! Proposed choice trees that refute a value, whose sets of boxes are decided by proposals too.
+//! Proposed refutations of bounded runs.
 //!
-//! The caller tests each proposal. The search is proved to be safe and to end, and nothing else.
+//! Of a value: choice trees whose leaves are priced out by tuples of scale functions, and whose sets
+//! of boxes are decided by proposals too. Of a height: families of boxes side by side, of which
+//! every two are apart in one dimension by the closure of the root, and which are together longer
+//! than the container.
+//!
+//! The caller tests each proposal. The searches are proved to be safe and to end, and nothing else.
+//!
+//! Sources: the surrogate bound of a knapsack, by Dantzig's bound over the volumes of conservative
+//! scales (Fekete and Schepers); the stable sets of a component graph (Fekete, Schepers and van der
+//! Veen, 2007), found as heavy cliques of the graph of the pairs that are apart.
 #![tactic(auto)]
 
+mod boxes;
+mod candidates;
+mod exchanges;
+mod family_growing;
+mod family_lines;
+mod family_search;
+mod family_slots;
+mod family_space;
+mod fill;
+mod functions;
 mod kinds;
 mod memory;
+mod path;
 mod patience;
+mod pause;
+mod pool;
+mod proposal;
+mod recent;
 mod refuter;
 mod sets;
+mod tree_search;
+mod tree_slots;
+mod tree_space;
 
+pub use family_search::propose_family;
+pub use pause::{Pause, TreeLimits};
+pub use proposal::{bounded_root, propose_bounded_refutation};
 pub use refuter::{BoundedEffort, ValueProposal, ValueRefuter};
+pub use tree_search::BoundedSearch;

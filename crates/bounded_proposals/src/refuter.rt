@@ -3,8 +3,9 @@
 use crate::kinds::{kinds, kinds_of};
 use crate::memory::SetCache;
 use crate::patience::Patience;
+use crate::pause::{Pause, TreeLimits};
 use crate::sets::set_instance;
-use bounded_search::{BoundedSearch, Pause, TreeLimits};
+use crate::tree_search::BoundedSearch;
 use bounded_tokens::BoundedToken;
 use box_instances::{Instance, NoMemory};
 use conflict_search::{Proposal, propose_refutation};

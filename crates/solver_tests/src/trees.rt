@@ -1,7 +1,6 @@
 //! Proposed trees with priced leaves, and the check of them.
 use crate::instances::squares;
-use bounded_proposals::{BoundedEffort, ValueProposal, ValueRefuter};
-use bounded_search::TreeLimits;
+use bounded_proposals::{BoundedEffort, TreeLimits, ValueProposal, ValueRefuter};
 use bounded_tokens::BoundedToken;
 use box_instances::Instance;
 use outer_check::{Goal, OuterRefuter};

@@ -1,8 +1,8 @@
 //! The search for a family that refutes an instance.
 
-use crate::growing::{JoinOrder, grown, sorted_boxes};
-use crate::lines::family_lines;
-use crate::space::{Root, apart_rows, test_root};
+use crate::family_growing::{JoinOrder, grown, sorted_boxes};
+use crate::family_lines::family_lines;
+use crate::family_space::{Root, apart_rows, test_root};
 use bounded_tokens::{FamilyToken, Token};
 use box_instances::{Instance, NoMemory};
 use edge_state::EdgeState;

@@ -2,8 +2,8 @@
 //!
 //! Source: Dantzig (1957), on the fractional knapsack.
 
-use crate::slots::bit;
-use crate::space::WHOLE_SHARE;
+use crate::tree_slots::bit;
+use crate::tree_space::WHOLE_SHARE;
 
 /// A box with its share by a tuple and its value.
 #[derive(Clone, Copy)]

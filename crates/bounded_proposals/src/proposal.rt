@@ -1,7 +1,7 @@
 //! Proposed refutations of a value in which no set of boxes is decided.
 
 use crate::pause::{Pause, TreeLimits};
-use crate::search::BoundedSearch;
+use crate::tree_search::BoundedSearch;
 use bounded_tokens::BoundedToken;
 use box_instances::{Instance, NoMemory};
 use std::alloc::Global;

@@ -1,6 +1,6 @@
 //! A family that grows box by box.
 
-use crate::slots::{bit, container, row_at, side};
+use crate::family_slots::{bit, container, row_at, side};
 use box_instances::{Instance, NoMemory};
 use lenient_lists::pushed;
 use std::alloc::Global;
