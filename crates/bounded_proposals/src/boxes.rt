@@ -1,7 +1,7 @@
 //! What is known of boxes before a search: which fit alone, in which order they are decided, and
 //! which exclude each other.
 
-use crate::tree_slots::bit;
+use crate::slots::bit;
 use box_instances::{Instance, NoMemory};
 use lenient_lists::pushed;
 use std::alloc::Global;

@@ -1,7 +1,7 @@
 //! Which boxes come before which: the first can take the place of the second in any set that fits,
 //! and is worth no less. Some best set has with each box all that come before it.
 
-use crate::tree_slots::bit;
+use crate::slots::bit;
 use box_instances::{Instance, NoMemory};
 use lenient_lists::pushed;
 use std::alloc::Global;

@@ -1,6 +1,7 @@
 //! A family that grows box by box.
 
-use crate::family_slots::{bit, container, row_at, side};
+use crate::family_sides::{container, side};
+use crate::slots::{bit, entry};
 use box_instances::{Instance, NoMemory};
 use lenient_lists::pushed;
 use std::alloc::Global;
@@ -18,7 +19,7 @@ pub(crate) enum JoinOrder {
 fn key(instance: &Instance, dim: u32, rows: &[u128], order: JoinOrder, v: u32) -> u64 {
     let most = match order {
         JoinOrder::Side => side(instance, v, dim),
-        JoinOrder::Degree => u64::from(row_at(rows, v).count_ones()),
+        JoinOrder::Degree => u64::from(entry(rows, v as usize, 0).count_ones()),
     };
     u64::MAX - most
 }
@@ -63,7 +64,7 @@ pub(crate) fn grown(
     let mut family = Vec::new(alloc);
     pushed(&mut family, first)?;
     let mut length = side(instance, first, dim);
-    let mut open = row_at(rows, first);
+    let mut open = entry(rows, first as usize, 0);
     for v in order {
         if open & bit(*v) != 0 {
             pushed(&mut family, *v)?;
@@ -71,7 +72,7 @@ pub(crate) fn grown(
             if most < length {
                 return Ok(Some(family));
             }
-            open &= row_at(rows, *v);
+            open &= entry(rows, *v as usize, 0);
         }
     }
     Ok(None)

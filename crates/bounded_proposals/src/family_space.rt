@@ -1,5 +1,5 @@
 //! The root: what closes it, or the pairs of boxes that are apart in every packing.
-use crate::family_slots::bit;
+use crate::slots::bit;
 use bounded_tokens::Token;
 use box_instances::{Instance, NoMemory};
 use class_search::first_too_large;

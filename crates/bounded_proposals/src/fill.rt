@@ -2,7 +2,7 @@
 //!
 //! Source: Dantzig (1957), on the fractional knapsack.
 
-use crate::tree_slots::bit;
+use crate::slots::bit;
 use crate::tree_space::WHOLE_SHARE;
 
 /// A box with its share by a tuple and its value.

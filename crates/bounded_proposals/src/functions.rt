@@ -1,6 +1,6 @@
 //! The scale functions of one dimension that no other function dominates.
 
-use crate::tree_slots::{block_of, entry};
+use crate::slots::{block_of, entry};
 use box_instances::{Instance, NoMemory};
 use conservative_scales::{ScaleFn, image, legal, whole};
 use lenient_lists::pushed;

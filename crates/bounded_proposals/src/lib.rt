@@ -18,7 +18,7 @@ mod exchanges;
 mod family_growing;
 mod family_lines;
 mod family_search;
-mod family_slots;
+mod family_sides;
 mod family_space;
 mod fill;
 mod functions;
@@ -32,8 +32,8 @@ mod proposal;
 mod recent;
 mod refuter;
 mod sets;
+mod slots;
 mod tree_search;
-mod tree_slots;
 mod tree_space;
 
 pub use family_search::propose_family;

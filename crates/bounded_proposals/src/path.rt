@@ -2,7 +2,7 @@
 
 use crate::boxes::decision_order;
 use crate::fill::OpenNode;
-use crate::tree_slots::{bit, entry};
+use crate::slots::{bit, entry};
 use box_instances::{Instance, NoMemory};
 use lenient_lists::pushed;
 use std::alloc::Global;

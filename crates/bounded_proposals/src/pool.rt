@@ -1,7 +1,7 @@
 //! The pool of tuples: those whose bounds at the root are the least, with the shares of all boxes.
 
 use crate::fill::{OpenNode, PricedBox, Weights, density, is_priced_out, least_goal, weights_of};
-use crate::tree_slots::{block_of, entry, write};
+use crate::slots::{block_of, entry, write};
 use crate::tree_space::TupleSpace;
 use box_instances::{Instance, NoMemory};
 use conservative_scales::ScaleTuple;

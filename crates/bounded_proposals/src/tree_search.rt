@@ -16,7 +16,7 @@ use crate::path::{Path, TakenBox};
 use crate::pause::{Pause, TreeLimits};
 use crate::pool::Pool;
 use crate::recent::Recent;
-use crate::tree_slots::{bit, entry};
+use crate::slots::{bit, entry};
 use bounded_tokens::BoundedToken;
 use box_instances::{Instance, NoMemory};
 use lenient_lists::pushed;

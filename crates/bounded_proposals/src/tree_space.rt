@@ -2,7 +2,7 @@
 
 use crate::candidates::undominated;
 use crate::functions::FunctionList;
-use crate::tree_slots::{entry, write};
+use crate::slots::{entry, write};
 use box_instances::{Instance, NoMemory};
 use conservative_scales::{ScaleFn, ScaleTuple};
 use std::alloc::Global;

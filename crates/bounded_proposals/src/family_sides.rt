@@ -1,19 +1,6 @@
-//! Guarded access to rows of bits and to sides.
+//! Guarded access to sides.
 
 use box_instances::Instance;
-
-/// The row at an index, and no box past the end.
-#[inline]
-pub(crate) fn row_at(rows: &[u128], v: u32) -> u128 {
-    let index = v as usize;
-    if index < rows.len() { rows[index] } else { 0 }
-}
-
-/// The bit of a box in a row of 128 bits.
-#[inline]
-pub(crate) fn bit(v: u32) -> u128 {
-    1u128 << (v % 128)
-}
 
 /// The side of a box in a dimension, and 0 if one of them isn't in range.
 pub(crate) fn side(instance: &Instance, v: u32, dim: u32) -> u64 {
