@@ -12,7 +12,9 @@ ghost use Rattle.bounded_answers.specs.Heights.{plain_levels, plain_proof, plain
 ghost use Rattle.answer_streams.specs.BoundedStrips.{IsRising, IsReadyStrip};
 
 use crate::documents::{Written, write_places};
-use crate::results::{write_between_line, write_least_line, write_none_line, write_opening, write_proof};
+use crate::results::{
+    write_between_line, write_least_line, write_none_line, write_opening, write_proof,
+};
 use crate::streaming::Streamed;
 use bounded_answers::{BoundedStrip, HeightLevels, HeightProof};
 use bounded_tokens::{FamilyToken, write_family_token_on};

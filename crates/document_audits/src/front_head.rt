@@ -14,7 +14,9 @@ ghost use Rattle.document_audits.specs.FrontHeads.{TakesText, completeness, coun
 use crate::front_audit::{FrontAudit, short};
 use crate::front_lines::{FORM, RANGE, next_taken};
 use box_instances::Instance;
-use instance_text::{Cursor, InstanceReader, LineLexer, ReadTextError, is_result, is_same, is_word};
+use instance_text::{
+    Cursor, InstanceReader, LineLexer, ReadTextError, is_result, is_same, is_word,
+};
 use std::alloc::Global;
 use text_terms::read_number;
 use verdict_terms::Reason;

@@ -14,7 +14,10 @@ use crate::input::DOCUMENT_LIMIT;
 use crate::stop::Stop;
 use answer_streams::{AuditedVerdict, ExplainedVerdict, FrontAudited, Verdict, stream};
 use box_instances::NoMemory;
-use document_audits::{ExplainedAudit, FrontAudit, Opened, audit_explained, audit_front_document, document_kind, open_document};
+use document_audits::{
+    ExplainedAudit, FrontAudit, Opened, audit_explained, audit_front_document, document_kind,
+    open_document,
+};
 use document_check::{Audit, CheckEnd, audit_document, check_rest};
 use instance_text::LineLexer;
 use pack_streams::{ReadStop, Sink, Source};
