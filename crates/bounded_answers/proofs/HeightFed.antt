@@ -11,7 +11,7 @@ use Rattle.verdict_terms.specs.FamilyChecking.{family_checked, family_checked_al
 use Rattle.verdict_terms.proofs.FamilyTrees.{families_in_trees}
 use Rattle.bounded_tokens.specs.declared.family_token.FamilyToken.{FamilyToken}
 use Rattle.bounded_tokens.specs.FamilyPlain.{plain_family}
-use Rattle.family_check.specs.FamilyRefuters.{PlainFamilyRefuter, fed_family}
+use Rattle.outer_check.specs.FamilyRefuters.{PlainFamilyRefuter, fed_family}
 use Rattle.answer_terms.specs.HeightAnswers.{AreJoining}
 
 -- the refuter of an instance to which these tokens were fed

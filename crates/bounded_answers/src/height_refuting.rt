@@ -10,7 +10,7 @@ ghost use Rattle.bounded_answers.specs.Heights.{AreRefutedBy};
 use bounded_proposals::propose_family;
 use bounded_tokens::FamilyToken;
 use box_instances::{Instance, NoMemory};
-use family_check::FamilyRefuter;
+use outer_check::FamilyRefuter;
 use std::alloc::Global;
 
 /// Whether tokens are a refutation with families: the boxes don't fit the container.

@@ -12,7 +12,7 @@ use crate::check::CheckEnd;
 use crate::position::{Position, give_lines};
 use box_instances::Instance;
 use document_lines::{FamilyEndReader, FamilyReader, LineJudge};
-use family_check::FamilyRefuter;
+use outer_check::FamilyRefuter;
 use pack_streams::Source;
 use std::alloc::Global;
 use text_terms::Claim;

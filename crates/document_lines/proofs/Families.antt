@@ -6,7 +6,7 @@ use Rattle.verdict_terms.specs.declared.check_answers.FeedVerdict.{FeedVerdict}
 use Rattle.verdict_terms.specs.Checking.{answered, checked_by}
 use Rattle.verdict_terms.specs.FamilyRefutation.{FamilyToken, FamilyNode}
 use Rattle.verdict_terms.specs.FamilyChecking.{families_after}
-use Rattle.family_check.specs.FamilyRefuters.{PlainFamilyRefuter, fed_family}
+use Rattle.outer_check.specs.FamilyRefuters.{PlainFamilyRefuter, fed_family}
 use Rattle.document_lines.specs.Gatherings.{is_family_open, FeedsFamily}
 
 module _ (instance : PlainInstance) (t : FamilyToken) where

@@ -6,7 +6,7 @@ use Rattle.verdict_terms.specs.declared.check_answers.FeedVerdict.TheVariants.{M
 use Rattle.text_terms.specs.declared.claim.Claim.{Claim}
 use Rattle.verdict_terms.specs.FamilyRefutation.{FamilyToken, Free}
 use Rattle.verdict_terms.specs.FamilyChecking.{families_after}
-use Rattle.family_check.specs.FamilyRefuters.{PlainFamilyRefuter}
+use Rattle.outer_check.specs.FamilyRefuters.{PlainFamilyRefuter}
 use Rattle.verdict_terms.specs.Stages.{Stage, gathering_line}
 use Rattle.verdict_terms.specs.Stages.Stage.{ProvingFamilies, Gathering, Ended}
 use Rattle.document_lines.specs.declared.judge.LineStop.{LineStop}

@@ -11,3 +11,5 @@ pub mod Opened
 pub mod Prices
 pub mod FurtherLeaves
 pub mod BoxExchanges
+pub mod FamilySteps
+pub mod FamilyHeld

@@ -4,3 +4,5 @@ pub mod Outers
 pub mod Steps
 pub mod Taking
 pub mod Bounded
+pub mod FamilyAnswers
+pub mod FamilyRefuters

@@ -1,8 +1,8 @@
 //! Trees with families, token by token.
 use crate::verdicts::is_wanted;
-use box_instances::{BoxItem, Instance, Sides};
-use family_check::{FamilyRefuter, FeedVerdict, RefuseCode};
 use bounded_tokens::{FamilyToken, JoiningBoxes, Token};
+use box_instances::{BoxItem, Instance, Sides};
+use outer_check::{FamilyRefuter, FeedVerdict, RefuseCode};
 use std::alloc::Global;
 use std::test::Fail;
 

@@ -3,7 +3,7 @@ use Rattle.std.proofs.lemmas.List.{take_all}
 use Rattle.verdict_terms.specs.Checking.{is_whole}
 use Rattle.bounded_tokens.specs.declared.family_token.FamilyToken.{FamilyToken}
 use Rattle.bounded_tokens.specs.FamilyPlain.{plain_family}
-use Rattle.family_check.specs.FamilyRefuters.{PlainFamilyRefuter}
+use Rattle.outer_check.specs.FamilyRefuters.{PlainFamilyRefuter}
 use Rattle.bounded_answers.proofs.HeightFed.{fed_all, fed_next, families_tested}
 use Rattle.bounded_answers.proofs.height_refuting.is_family_refutation.Goals as goal
 

@@ -2,9 +2,9 @@ use Rattle.std.proofs.Common.{◌≡◌, ◌∙◌, sym, ap, subst, arith, lengt
 use Rattle.std.proofs.lemmas.List.{length-append}
 use Rattle.packing_terms.specs.Goals.{subset}
 use Rattle.refutation_check.specs.Joining.{AreBoxNos}
-use Rattle.family_check.proofs.Steps.{refused_step, closed_step, open_step, answer_is, front_part, parts_told, are_own}
-use Rattle.family_check.proofs.Held.{begun_few, begun_named, set_named, held_open}
-use Rattle.family_check.proofs.refuter.FamilyRefuter.feed_family.Goals as goal
+use Rattle.outer_check.proofs.FamilySteps.{refused_step, closed_step, open_step, answer_is, front_part, parts_told, are_own}
+use Rattle.outer_check.proofs.FamilyHeld.{begun_few, begun_named, set_named, held_open}
+use Rattle.outer_check.proofs.family_refuter.FamilyRefuter.feed_family.Goals as goal
 
 pub append-requires : goal.append-requires
 append-requires c =

@@ -1,5 +1,5 @@
 use Rattle.std.proofs.Common.{◌≡◌, ◌++◌, take, vec_capacity}
-use Rattle.family_check.proofs.refuter.append.Given as goal
+use Rattle.outer_check.proofs.family_refuter.append.Given as goal
 
 abbrev pub invariant-loop-k : goal.invariant-loop-k
 invariant-loop-k l = (l.family.items ≡ l.initial.family.items ++ take l.k l.boxes)

@@ -21,8 +21,8 @@ use Rattle.verdict_terms.proofs.FamilyJudged.{plain_families_after}
 use Rattle.refutation_check.specs.Refuters.{PlainRefuter, fed}
 use Rattle.refutation_check.specs.Joining.{unless_refused, joined_at, still_refused, join_answer, checked_joined}
 use Rattle.refutation_check.proofs.Whole.{whole_set}
-use Rattle.family_check.specs.Answers.{refusal_in, is_begun_in}
-use Rattle.family_check.specs.FamilyRefuters.{PlainFamilyRefuter, fed_family, nodes_seen, IsBegun}
+use Rattle.outer_check.specs.FamilyAnswers.{refusal_in, is_begun_in}
+use Rattle.outer_check.specs.FamilyRefuters.{PlainFamilyRefuter, fed_family, nodes_seen, IsBegun}
 
 -- without a family the nodes are free
 pub seen_free : (us : List ℕ) (nodes : List (List Exclusion)) → nodes_seen None us nodes ≡ all_free nodes

@@ -5,8 +5,8 @@ ghost use Rattle.verdict_terms.specs.Checking.{starting, answered, is_whole};
 ghost use Rattle.proof_tree.specs.Plain.{plain_token};
 ghost use Rattle.verdict_terms.specs.FamilyRefutation.{Plain, Family, Free};
 ghost use Rattle.bounded_tokens.specs.FamilyPlain.{plain_family};
-ghost use Rattle.family_check.specs.FamilyRefuters.{fed_family};
-ghost use Rattle.family_check.specs.Answers.{refusal_in, is_begun_in};
+ghost use Rattle.outer_check.specs.FamilyRefuters.{fed_family};
+ghost use Rattle.outer_check.specs.FamilyAnswers.{refusal_in, is_begun_in};
 
 use bounded_tokens::{FamilyToken, Token};
 use box_instances::{Instance, NoMemory};
@@ -33,7 +33,7 @@ pub struct FamilyRefuter<'a> {
 
 impl<'a> Model for FamilyRefuter<'a> {
     ghost use Rattle.std.specs.Prelude.{vec_capacity};
-    ghost use Rattle.family_check.specs.FamilyRefuters.{PlainFamilyRefuter, nodes_seen, IsHeld};
+    ghost use Rattle.outer_check.specs.FamilyRefuters.{PlainFamilyRefuter, nodes_seen, IsHeld};
 
     ghost Value = { PlainFamilyRefuter };
 

@@ -1,8 +1,8 @@
 use Rattle.std.proofs.Common.{◌∙◌, ap}
 use Rattle.proof_tree.specs.Plain.{plain_token}
-use Rattle.family_check.specs.Answers.{refusal_in}
-use Rattle.family_check.proofs.Steps.{refusal_told, plain_step}
-use Rattle.family_check.proofs.refuter.FamilyRefuter.feed_plain.Goals as goal
+use Rattle.outer_check.specs.FamilyAnswers.{refusal_in}
+use Rattle.outer_check.proofs.FamilySteps.{refusal_told, plain_step}
+use Rattle.outer_check.proofs.family_refuter.FamilyRefuter.feed_plain.Goals as goal
 
 pub returns-clause-step : goal.returns-clause-step
 returns-clause-step c =

@@ -21,8 +21,8 @@ use Rattle.verdict_terms.proofs.FamilyFew.{family_few}
 use Rattle.refutation_check.specs.Refuters.{PlainRefuter, fed}
 use Rattle.refutation_check.specs.Joining.{AreBoxNos, unless_refused, joined_at, checked_joined}
 use Rattle.refutation_check.proofs.Whole.{whole_set}
-use Rattle.family_check.specs.Answers.{is_begun_in}
-use Rattle.family_check.specs.FamilyRefuters.{IsBegunAt, IsBegun, IsHeld}
+use Rattle.outer_check.specs.FamilyAnswers.{is_begun_in}
+use Rattle.outer_check.specs.FamilyRefuters.{IsBegunAt, IsBegun, IsHeld}
 
 -- ---- the boxes of a family that is begun
 
