@@ -28,7 +28,6 @@ mod path;
 mod patience;
 mod pause;
 mod pool;
-mod proposal;
 mod recent;
 mod refuter;
 mod sets;
@@ -37,7 +36,5 @@ mod tree_search;
 mod tree_space;
 
 pub use family_search::propose_family;
-pub use pause::{Pause, TreeLimits};
-pub use proposal::{bounded_root, propose_bounded_refutation};
+pub use pause::TreeLimits;
 pub use refuter::{BoundedEffort, ValueProposal, ValueRefuter};
-pub use tree_search::BoundedSearch;
