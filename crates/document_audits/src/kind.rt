@@ -11,7 +11,7 @@ use text_terms::SolvingJob;
 use verdict_terms::DocumentKind;
 
 /// The kind of a document whose first line that isn't blank is this one.
-pub fn kind_of_line(line: &LineLexer) -> DocumentKind
+pub(crate) fn kind_of_line(line: &LineLexer) -> DocumentKind
     ensures { result ≡ kind_of_line (ended_line line.now.held) }
 {
     if line.bad_byte() {
@@ -37,7 +37,7 @@ fn begins_bounded(line: &LineLexer) -> bool
 }
 
 /// The job of a bounded document whose first line that isn't blank is this one.
-pub fn bounded_job(line: &LineLexer) -> SolvingJob
+pub(crate) fn bounded_job(line: &LineLexer) -> SolvingJob
     ensures { result ≡ bounded_job line.now.held.words }
 {
     if are_two(line, b"bounded", b"knapsack") {

@@ -25,7 +25,7 @@ mod words;
 
 pub use explained_audit::{ExplainedAudit, audit_explained};
 pub use front_audit::{FrontAudit, audit_front_document};
-pub use kind::{bounded_job, document_kind, kind_of_line};
+pub use kind::document_kind;
 pub use opening::{Opened, open_document};
 pub use opening_laws::{documents_are_read_one_way, kinds_stay};
 pub use position::result_line;
