@@ -1,4 +1,5 @@
 //! Points and blocks in up to four dimensions, and the far corners of a block.
+ghost use Rattle.std.specs.Prelude.{◌<◌};
 
 use box_instances::NoMemory;
 use std::alloc::Global;
@@ -45,6 +46,14 @@ impl Block {
         k < 4 && self.start[k] <= point[k] && point[k] < self.end[k]
     }
 
+    // Whether the block lacks a coordinate of a point, without a branch.
+    #[inline]
+    fn lacks_in(&self, point: &Point, k: usize) -> bool
+        requires { k < 4 }
+    {
+        (point[k] < self.start[k]) | (self.end[k] <= point[k])
+    }
+
     /// Whether the block has a point.
     #[inline]
     pub(crate) fn has(&self, point: &Point) -> bool {
@@ -79,14 +88,15 @@ impl Corners {
     /// that lacks three coordinates of the start is near no corner.
     #[inline]
     pub(crate) fn note(&mut self, block: &Block, other: &Block) {
-        let mut gaps = 0u32;
-        let mut misses = [false; 4];
-        for k in 0..4 {
-            if !other.has_in(&block.start, k) {
-                misses[k] = true;
-                gaps = gaps.saturating_add(1);
-            }
-        }
+        let misses = [
+            other.lacks_in(&block.start, 0),
+            other.lacks_in(&block.start, 1),
+            other.lacks_in(&block.start, 2),
+            other.lacks_in(&block.start, 3),
+        ];
+        let first = u32::from(misses[0]).saturating_add(u32::from(misses[1]));
+        let last = u32::from(misses[2]).saturating_add(u32::from(misses[3]));
+        let gaps = first.saturating_add(last);
         if gaps > 2 {
             return;
         }

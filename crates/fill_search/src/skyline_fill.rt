@@ -179,13 +179,17 @@ impl SkylineFill {
         }
     }
 
-    // The same where all boxes are compared. There is no branch for a box, so that several are
-    // compared by one instruction.
+    // The same where all boxes are compared. The slices have one length and no box has a branch, so
+    // that vector instructions compare several boxes at once.
     fn best_of_all(&self, gap: &Gap, room: u32) -> Option<Chosen> {
+        let most = self.heights.len().min(self.ranks.len());
+        let count = self.count.min(self.widths.len()).min(most);
+        let widths = &self.widths[..count];
+        let heights = &self.heights[..count];
+        let ranks = &self.ranks[..count];
         let mut best = 0u32;
-        let boxes = self.widths.iter().zip(self.heights.iter());
-        for ((width, height), rank) in boxes.zip(self.ranks.iter()).take(self.count) {
-            let key = (score(gap, room, *width, *height) << RANK_BITS) | *rank;
+        for k in 0..count {
+            let key = (score(gap, room, widths[k], heights[k]) << RANK_BITS) | ranks[k];
             best = best.max(key);
         }
         let score = best >> RANK_BITS;
